@@ -1,0 +1,11 @@
+mod Marks
+mod Words
+mod Drawings
+mod Tables
+mod Back
+mod Counts
+mod Turns
+mod Rules
+mod Texts
+mod Places
+mod Correspondence
