@@ -1,11 +1,11 @@
-mod Marks
-mod Words
-mod Drawings
-mod Tables
-mod Back
-mod Counts
-mod Turns
-mod Rules
-mod Texts
-mod Places
-mod Correspondence
+pub mod Marks
+pub mod Words
+pub mod Drawings
+pub mod Tables
+pub mod Back
+pub mod Counts
+pub mod Turns
+pub mod Rules
+pub mod Texts
+pub mod Places
+pub mod Correspondence

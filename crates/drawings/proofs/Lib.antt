@@ -1,0 +1,3 @@
+mod Meetings
+mod Sound
+mod Counting
