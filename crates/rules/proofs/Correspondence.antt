@@ -59,7 +59,7 @@ tables-come-back t w e =
       omega (arith, length-writes (canonical t) 0 0 (omega arith) y),
     )
 
-words-told : (v w : List Symbol) → Lawful v → Lawful w → drawn v ≡ drawn w → v ≡ w
+pub words-told : (v w : List Symbol) → Lawful v → Lawful w → drawn v ≡ drawn w → v ≡ w
 words-told v w a b e =
     let p = parts v a in
     let q = parts w b in

@@ -63,7 +63,7 @@ pairs-break t = some-below (length t) (λ i. not (at t i .vertex) && not (eqb (s
 abbrev pub groups-cross : List Crossing → Bool
 groups-cross t =
     some-below (length t) (λ d. some-below d (λ c. some-below c (λ b. some-below b (λ a.
-        (together t a c && together t b d) && not (together t a b)))))
+    (together t a c && together t b d) && not (together t a b)))))
 
 abbrev pub fault : List Crossing → Option Refusal
 fault t =
