@@ -11,11 +11,12 @@ use Rattle.std.specs.declared.option.Option.{Option}
 use Rattle.std.specs.declared.option.Option.the-variants.{Some, None}
 use Rattle.std.specs.declared.result.Result.{Result}
 use Rattle.std.specs.declared.result.Result.the-variants.{Ok, Err}
-use Rattle.std.proofs.shelf.Tests.{lt-ltb, le-ltb, cases-lt}
+use Rattle.std.specs.Options.{isSome}
+use Rattle.std.proofs.shelf.Tests.{and-parts, lt-ltb, le-ltb, cases-lt}
 use Rattle.symbols.specs.declared.refusals.Refusal.{Refusal}
 use Rattle.symbols.specs.declared.symbols.Crossing.{Crossing}
 use Rattle.symbols.specs.declared.symbols.Symbol.{Symbol}
-use Rattle.rules.specs.Words.{Lawful, drawing-of, or-empty, drawn}
+use Rattle.rules.specs.Words.{Lawful, shaped, drawing-of, drawn, judged}
 use Rattle.rules.specs.Tables.{Means, fault, canonical, word-of, build-word, unless}
 use Rattle.rules.specs.Crossings.{Same-drawing, before, after, where-in, leaves-at, enters-at}
 use Rattle.rules.specs.Statements.{Words-come-back, Tables-come-back, Drawings-are-told, Steps-undo, Turns, Examples}
@@ -30,6 +31,10 @@ use Rattle.rules.proofs.Turns.{crossings-turn}
 
 some-same : {X : Type 0} (x y : X) → _≡_ {A = Option X} (Some x) (Some y) → x ≡ y
 some-same x y e = cc
+
+-- a lawful word is judged to be one
+pub judged-ok : (w : List Symbol) → Lawful w → judged w ≡ Ok w
+judged-ok w l = (let a = and-parts (shaped w) (isSome (drawing-of w)) l in rw (a .0, a .1))
 
 pub words-come-back : Words-come-back
 words-come-back w l =

@@ -19,7 +19,7 @@ use Rattle.std.specs.declared.result.Result.{Result}
 use Rattle.std.specs.declared.result.Result.the-variants.{Ok, Err}
 use Rattle.std.specs.Options.{isSome}
 use Rattle.std.proofs.shelf.Lists.{take-at, take-more-set, map-more, append-nil, append-assoc, at-drop-more, at-drop-all, length-map}
-use Rattle.std.proofs.shelf.Tests.{and-from, and-parts, lt-leb, le-ltb, ltb-false, cases-bool, false≢true}
+use Rattle.std.proofs.shelf.Tests.{lt-leb, le-ltb, ltb-false, cases-bool, false≢true}
 use Rattle.symbols.specs.declared.refusals.Refusal.{Refusal}
 use Rattle.symbols.specs.declared.refusals.Refusal.the-variants.{NoWord, Unlawful, Short}
 use Rattle.symbols.specs.declared.symbols.Crossing.{Crossing}
@@ -29,7 +29,7 @@ use Rattle.symbols.specs.Refusals.{filled, fill-answer}
 use Rattle.symbols.specs.Symbols.{letter, lettered, joined, spelt, text}
 use Rattle.rules.specs.Words.{shaped, drawing-of, drawn, lawful, Lawful, judged, judged-spelt, read-word}
 use Rattle.rules.proofs.Words.{Parts, parts}
-use Rattle.rules.proofs.Correspondence.{words-come-back, tables-come-back}
+use Rattle.rules.proofs.Correspondence.{words-come-back, tables-come-back, judged-ok}
 use Rattle.drawings.specs.Drawings.{draws}
 
 drawn-lawful : (a b : Bool) (w : List Symbol) (d : List Crossing) → Ok d ≡ draws (cond a (cond b (Ok w) (Err Unlawful)) (Err NoWord)) → (a && b) ≡ true
@@ -39,9 +39,6 @@ drawn-lawful false b w d e = (let z : _≡_ {A = ℕ} 0 1 = cc in absurd (omega 
 
 pub judged-drawn : (w : List Symbol) (d : List Crossing) → Ok d ≡ draws (judged w) → Lawful w
 judged-drawn w d e = drawn-lawful (shaped w) (isSome (drawing-of w)) w d e
-
-pub judged-ok : (w : List Symbol) → Lawful w → judged w ≡ Ok w
-judged-ok w l = (let a = and-parts (shaped w) (isSome (drawing-of w)) l in rw (a .0, a .1))
 
 pub kept : (w memory : List Symbol) → length w ≤ length memory → take (length w) (filled w memory) ≡ w
 kept w memory h = rw (le-ltb (length memory) (length w) h) (take-at w (drop (length w) memory) (length w) refl)

@@ -1,0 +1,4 @@
+mod Stacks
+mod Steps
+mod Writing
+mod Faults
