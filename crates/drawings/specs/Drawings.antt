@@ -12,7 +12,7 @@ use Rattle.std.specs.declared.result.Result.{Result}
 use Rattle.std.specs.declared.result.Result.the-variants.{Ok, Err}
 use Rattle.symbols.specs.declared.refusals.Refusal.{Refusal}
 use Rattle.symbols.specs.declared.symbols.Crossing.{Crossing}
-use Rattle.symbols.specs.declared.symbols.Road.{Road}
+use Rattle.symbols.specs.declared.roads.Road.{Road}
 use Rattle.symbols.specs.declared.symbols.Symbol.{Symbol}
 use Rattle.symbols.specs.Symbols.{road-code}
 use Rattle.rules.specs.Words.{drawn}

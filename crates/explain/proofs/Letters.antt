@@ -15,8 +15,8 @@ use Rattle.std.proofs.shelf.Lists.{append-assoc}
 use Rattle.std.proofs.shelf.Tests.{lt-ltb}
 use Rattle.std.proofs.shelf.Text.{encode-ascii}
 use Rattle.symbols.specs.declared.symbols.Crossing.{Crossing}
-use Rattle.symbols.specs.declared.symbols.Road.{Road}
-use Rattle.symbols.specs.declared.symbols.Road.the-variants.{West, North, East, South}
+use Rattle.symbols.specs.declared.roads.Road.{Road}
+use Rattle.symbols.specs.declared.roads.Road.the-variants.{West, North, East, South}
 use Rattle.symbols.specs.Symbols.{road-letter}
 use Rattle.rules.specs.Crossings.{where-in}
 use Rattle.explain.specs.declared.Line.{Line}

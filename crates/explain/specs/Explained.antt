@@ -16,8 +16,8 @@ use Rattle.std.specs.declared.result.Result.{Result}
 use Rattle.std.specs.declared.result.Result.the-variants.{Ok, Err}
 use Rattle.symbols.specs.declared.refusals.Refusal.{Refusal}
 use Rattle.symbols.specs.declared.symbols.Crossing.{Crossing}
-use Rattle.symbols.specs.declared.symbols.Road.{Road}
-use Rattle.symbols.specs.declared.symbols.Road.the-variants.{West}
+use Rattle.symbols.specs.declared.roads.Road.{Road}
+use Rattle.symbols.specs.declared.roads.Road.the-variants.{West}
 use Rattle.symbols.specs.declared.symbols.Symbol.{Symbol}
 use Rattle.symbols.specs.Refusals.{number}
 use Rattle.symbols.specs.Symbols.{roads, road-letter}

@@ -13,8 +13,8 @@ use Prim.Native.Nat.{ℕ}
 use lib.Dec.{eqb}
 use Rattle.std.specs.declared.option.Option.{Option}
 use Rattle.std.specs.declared.option.Option.the-variants.{Some, None}
-use Rattle.symbols.specs.declared.symbols.Road.{Road}
-use Rattle.symbols.specs.declared.symbols.Road.the-variants.{West, North, East, South}
+use Rattle.symbols.specs.declared.roads.Road.{Road}
+use Rattle.symbols.specs.declared.roads.Road.the-variants.{West, North, East, South}
 use Rattle.symbols.specs.declared.symbols.Symbol.{Symbol}
 use Rattle.symbols.specs.declared.symbols.Symbol.the-variants.{Corner, DeadEnd, SplitOpen, SplitClose, JunctionOpen, Branch, JunctionClose}
 

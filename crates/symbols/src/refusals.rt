@@ -1,9 +1,9 @@
 // Why a call is refused, and how one that is not fills the memory lent to it.
 ghost use mathlib.Core.Path.{_≡_};
 ghost use Rattle.symbols.specs.Refusals.{number, fill-answer, filled};
-use crate::symbols::Road;
-use crate::symbols::RoadDebug;
-use crate::symbols::RoadPartialEq;
+use crate::roads::Road;
+use crate::roads::RoadDebug;
+use crate::roads::RoadPartialEq;
 
 // Why a call was refused.
 #[derive(Clone, Copy, PartialEq, Eq, Debug)]

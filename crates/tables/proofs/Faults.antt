@@ -1,6 +1,7 @@
 -- The rule that the code finds broken is the fault of the table.
 --   judged-fault: what the code refuses with is the fault
---   built-word: a table that means a drawing is built into the word of that drawing
+--   no-fault, rising-table: a table that means a drawing has none, and one that has none has few records and rising roads
+--   built-word: a table without a fault is built into the word of its drawing
 use mathlib.Core.Path.{_≡_, refl, sym, ap, _∙_}
 use mathlib.Core.Logic.{inl, inr, _↔_}
 use mathlib.Core.Bool.{Bool, true, false, cond, _||_}
@@ -53,11 +54,14 @@ judged-fault t r.Short j = absurd j
 judged-fault t r.BadRecord j = absurd j
 judged-fault t r.Home j = absurd j
 
-pub refused-word : (t : List Crossing) (f : Refusal) → Judged t (Err f) → Err f ≡ build-word t
-refused-word t f j = rw (judged-fault t f j)
+pub no-fault : (t : List Crossing) → Means t → None ≡ fault t
+no-fault t m = sym (rules-are-told t .1 m)
 
-pub built-word : (t : List Crossing) → Means t → judged (word-of (canonical t)) ≡ build-word t
-built-word t m =
+pub built-word : (t : List Crossing) → None ≡ fault t → judged (word-of (canonical t)) ≡ build-word t
+built-word t e =
     let w = word-of (canonical t) in
-    let b : build-word t ≡ Ok w = rw (rules-are-told t .1 m) in
+    let b : build-word t ≡ Ok w = rw (sym e) in
     judged-ok w (tables-come-back t w b .0) ∙ sym b
+
+pub rising-table : (t : List Crossing) → None ≡ fault t → (length t ≤ 60) × Rising t
+rising-table t e = (let m = rules-are-told t .0 (sym e) in (m .few, m .roads))

@@ -6,8 +6,8 @@ ghost use lib.ListN.{length, take, replicate};
 ghost use Rattle.symbols.specs.declared.symbols.Symbol.the-variants.{Corner};
 ghost use Rattle.rules.specs.Tables.{Rising, symbol-at, canonical, word-of, build-word};
 ghost use Rattle.words.specs.Held.{in-symbols};
+use crate::fault_of;
 use crate::find_more;
-use crate::judge;
 use crate::name_groups;
 use symbols::Crossing;
 use symbols::Refusal;
@@ -71,7 +71,9 @@ fn write_word(table: &[Crossing], out: &mut [Symbol]) -> usize
 pub fn build(table: &[Crossing]) -> Result<Word, Refusal>
     ensures { λ r. ⌜ in-symbols r ≡ build-word (now (table .entry)) ⌝ }
 {
-    judge(table)?;
+    if let Some(refusal) = fault_of(table) {
+        return Err(refusal);
+    }
     let mut out = [Symbol::Corner; 64];
     let n = write_word(table, &mut out);
     Word::from_symbols(&out[0..n])

@@ -6,7 +6,7 @@ ghost use lib.ListN.{length, getD};
 ghost use Rattle.std.specs.Options.{Cases as BySome};
 ghost use Rattle.std.specs.Orderings.{Decides};
 ghost use Rattle.std.specs.declared.option.Option.the-variants.{Some};
-ghost use Rattle.rules.specs.Tables.{first-of, size-of, Rising, Flagged, Paired, Uncrossed};
+ghost use Rattle.rules.specs.Tables.{first-of, size-of, fault, Rising, Flagged, Paired, Uncrossed};
 ghost use Rattle.tables.specs.Nests.{firsts as numbers, Lasts, Goes-on, turn, nests, pile, piled};
 ghost use Rattle.tables.specs.Judging.{Judged};
 use symbols::Crossing;
@@ -194,4 +194,14 @@ fn judge(table: &[Crossing]) -> Result<(), Refusal>
         return Err(Refusal::Crossed);
     }
     Ok(())
+}
+
+// The first rule that a table breaks.
+fn fault_of(table: &[Crossing]) -> Option<Refusal>
+    ensures { λ r. ⌜ r ≡ fault (now (table .entry)) ⌝ }
+{
+    match judge(table) {
+        Ok(()) => None,
+        Err(refusal) => Some(refusal),
+    }
 }

@@ -4,7 +4,7 @@
 --   spell-more, spell-stop: one turn of the loop that spells a text
 --   too-long: a text of more than 64 bytes is no word
 --   write-more: one turn of the loop that writes letters
---   crossings-left: a word has four symbols more than crossings
+--   holds-word: what is held of a lawful word
 use mathlib.Core.Path.{_≡_, refl, sym, ap, subst, _∙_}
 use mathlib.Core.Logic.{inl, inr}
 use mathlib.Core.Bool.{Bool, true, false, cond, _&&_}
@@ -29,7 +29,7 @@ use Rattle.symbols.specs.Refusals.{filled, fill-answer}
 use Rattle.symbols.specs.Symbols.{letter, lettered, joined, spelt, text}
 use Rattle.rules.specs.Words.{shaped, drawing-of, drawn, lawful, Lawful, judged, judged-spelt, read-word}
 use Rattle.rules.proofs.Words.{Parts, parts}
-use Rattle.rules.proofs.Correspondence.{words-come-back, tables-come-back, judged-ok}
+use Rattle.rules.proofs.Correspondence.{judged-ok}
 use Rattle.drawings.specs.Drawings.{draws}
 
 drawn-lawful : (a b : Bool) (w : List Symbol) (d : List Crossing) → Ok d ≡ draws (cond a (cond b (Ok w) (Err Unlawful)) (Err NoWord)) → (a && b) ≡ true
@@ -95,11 +95,6 @@ too-long cs h = long-judged cs (spelt cs) refl h
 pub write-more : (w : List Symbol) (i : ℕ) (out : List ℕ) (x : ℕ) → i < length w → i < length out → x ≡ letter (getD w i Corner) → take i out ≡ text (take i w) → take (i + 1) (set out i x) ≡ text (take (i + 1) w)
 write-more w i out x h l e v =
     take-more-set out i x l ∙ ap (λ (y : List ℕ). y ++ (x ∷ [])) v ∙ ap (λ (y : ℕ). text (take i w) ++ (y ∷ [])) e ∙ sym (map-more letter w i Corner h)
-
--- Counting.
-
-pub crossings-left : (w : List Symbol) → Lawful w → length w - 4 ≡ length (drawn w)
-crossings-left w l = omega (arith, tables-come-back (drawn w) w (words-come-back w l .3) .2)
 
 -- Holding.
 

@@ -3,7 +3,9 @@ ghost use mathlib.Core.Path.{_≡_};
 ghost use Prim.Native.Nat.{ℕ, _≤_};
 ghost use lib.ListN.{length, take};
 ghost use Rattle.std.specs.Orderings.{When};
-ghost use Rattle.std.specs.declared.option.Option.the-variants.{Some, None};
+ghost use Rattle.std.specs.declared.option.Option.the-variants.{Some};
+ghost use Rattle.std.specs.declared.result.Result.the-variants.{Err};
+ghost use Rattle.symbols.specs.declared.refusals.Refusal.the-variants.{NoWord};
 ghost use Rattle.symbols.specs.Symbols.{spelt};
 ghost use Rattle.rules.specs.Words.{judged, read-word};
 ghost use Rattle.words.specs.Held.{in-symbols};
@@ -13,11 +15,14 @@ use symbols::Refusal;
 use symbols::Symbol;
 use symbols::fill;
 
-// Spells a text into symbols; whether each of its bytes is one.
+// Spells a text into symbols; whether it is at most 64 of them.
 fn spell(text: &[u8], out: &mut [Symbol]) -> bool
-    requires { ⌜ length (now text) ≤ length (now out) ⌝ }
-    ensures { λ r. ⌜ When r (spelt (now (text .entry)) ≡ Some (take (length (now (text .entry))) (now (out .exit)))) (spelt (now (text .entry)) ≡ None) ⌝ }
+    requires { ⌜ length (now out) ≡ 64 ⌝ }
+    ensures { λ r. ⌜ When r ((length (now (text .entry)) ≤ 64) × (spelt (now (text .entry)) ≡ Some (take (length (now (text .entry))) (now (out .exit))))) (read-word (now (text .entry)) ≡ Err NoWord) ⌝ }
 {
+    if text.len() > out.len() {
+        return false;
+    }
     for (i, b) in text.iter().enumerate() {
         let Some(s) = Symbol::from_char(char::from(*b)) else {
             return false;
@@ -32,7 +37,9 @@ impl Word {
     pub fn from_symbols(symbols: &[Symbol]) -> Result<Word, Refusal>
         ensures { λ r. ⌜ in-symbols r ≡ judged (now (symbols .entry)) ⌝ }
     {
-        Drawing::read(symbols)?;
+        if let Err(refusal) = Drawing::read(symbols) {
+            return Err(refusal);
+        }
         let mut held = [Symbol::Corner; 64];
         let len = fill(symbols, &mut held)?;
         Ok(Word { held, len })
@@ -42,15 +49,11 @@ impl Word {
     pub fn read_bytes(text: &[u8]) -> Result<Word, Refusal>
         ensures { λ r. ⌜ in-symbols r ≡ read-word (now (text .entry)) ⌝ }
     {
-        let n = text.len();
-        if n > 64 {
-            return Err(Refusal::NoWord);
-        }
         let mut symbols = [Symbol::Corner; 64];
         if !spell(text, &mut symbols) {
             return Err(Refusal::NoWord);
         }
-        Word::from_symbols(&symbols[0..n])
+        Word::from_symbols(&symbols[0..text.len()])
     }
 
     // The word of a text: refused where it is not 4 to 64 known symbols with four corners and one last, then where these do not read through.

@@ -79,7 +79,7 @@ impl Word {
     pub fn crossings(&self) -> usize
         ensures { λ r. ⌜ r ≡ length (drawn (symbols-of (now (self .entry)))) ⌝ }
     {
-        self.len() - 4
+        self.drawing().len()
     }
 
     // The word's text, to the front of memory; tells its length. Where the memory is shorter, nothing is written.

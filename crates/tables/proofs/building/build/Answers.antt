@@ -1,18 +1,13 @@
-use mathlib.Core.Path.{_≡_, sym, ap, _∙_}
-use mathlib.Core.List.{List}
+use mathlib.Core.Path.{_≡_, ap, _∙_}
 use Prim.Native.Nat.{ℕ, _-_}
 use native.Mathlib.Omega.{arith}
 use lib.ListN.{take}
-use Rattle.std.proofs.shelf.Results.{err-from-errBy}
-use Rattle.symbols.specs.declared.symbols.Symbol.{Symbol}
 use Rattle.rules.specs.Words.{judged}
-use Rattle.tables.proofs.Faults.{refused-word, built-word}
+use Rattle.tables.proofs.Faults.{rising-table, built-word}
 use Rattle.tables.proofs.building.build.Needs as need
 
-pub returns-in-Break-judge : need.returns-in-Break-judge
-returns-in-Break-judge c =
-    let p = err-from-errBy (c .from-residual .result) (c .from-residual .ensures .1) in
-    rw (p .1, p .2) (refused-word (c .args .table .now) _ (c .in-Break-judge .ensures tt))
+pub write-word-n-requires : need.write-word-n-requires
+write-word-n-requires c κs = (let r = rising-table (c .args .table .now) (c .in-rest .ensures tt) in (r .0, (r .1, omega arith)))
 
 pub returns : need.returns
 returns c =
@@ -20,4 +15,4 @@ returns c =
     c .from-symbols .ensures
     ∙ ap (λ (n : ℕ). judged (take n (c .write-word-n .last .out))) z
     ∙ ap judged (c .write-word-n .ensures .word)
-    ∙ built-word (c .args .table .now) (c .in-Continue-judge .ensures tt)
+    ∙ built-word (c .args .table .now) (c .in-rest .ensures tt)
