@@ -41,4 +41,4 @@ marks-in a (suc n) = getD a n (Split 0) ∷ marks-in a n
 
 abbrev pub meeting : List Mark → Option Met → Option Meeting
 meeting a None = None
-meeting a (Some m) = Some (record { group = m .group; vertex = m .vertex; marks = marks-in a (m .depth) })
+meeting a (Some m) = Some (record { group = m .0; vertex = m .1; marks = marks-in a (m .2) })

@@ -16,11 +16,7 @@ use symbols::Symbol;
 
 // What a crossing symbol does: the first crossing of its group, whether that has a vertex, and how many marks are open then.
 #[derive(Clone, Copy)]
-struct Met {
-    group: u16,
-    vertex: bool,
-    depth: usize,
-}
+struct Met(u16, bool, usize);
 
 fn is_corner(s: Symbol) -> bool
     ensures { λ r. ⌜ r ≡ is-corner s ⌝ }
@@ -55,42 +51,26 @@ fn has_shape(symbols: &[Symbol]) -> bool
 // One crossing symbol at crossing k, on the open marks.
 fn meet(s: Symbol, marks: &mut [Mark], depth: usize, k: u16) -> Option<Met>
     requires { ⌜ depth < length (now marks) ⌝ }
-    ensures deep { λ r. ⌜ BySome r (Unit {0}) (λ m. m .depth ≤ depth + 1) ⌝ }
+    ensures deep { λ r. ⌜ BySome r (Unit {0}) (λ m. m .2 ≤ depth + 1) ⌝ }
     ensures same { λ r. ⌜ meeting (now (marks .exit)) r ≡ meets s k (marks-in (now (marks .entry)) depth) ⌝ }
 {
     match s {
         Symbol::Corner => None,
-        Symbol::DeadEnd => Some(Met {
-            group: k,
-            vertex: true,
-            depth,
-        }),
+        Symbol::DeadEnd => Some(Met(k, true, depth)),
         Symbol::SplitOpen => {
             marks[depth] = Mark::Split(k);
-            Some(Met {
-                group: k,
-                vertex: false,
-                depth: depth + 1,
-            })
+            Some(Met(k, false, depth + 1))
         }
         Symbol::JunctionOpen => {
             marks[depth] = Mark::Junction(k);
-            Some(Met {
-                group: k,
-                vertex: true,
-                depth: depth + 1,
-            })
+            Some(Met(k, true, depth + 1))
         }
         Symbol::SplitClose => {
             if depth == 0 {
                 return None;
             }
             match marks[depth - 1] {
-                Mark::Split(g) => Some(Met {
-                    group: g,
-                    vertex: false,
-                    depth: depth - 1,
-                }),
+                Mark::Split(g) => Some(Met(g, false, depth - 1)),
                 Mark::Junction(_) => None,
             }
         }
@@ -100,11 +80,7 @@ fn meet(s: Symbol, marks: &mut [Mark], depth: usize, k: u16) -> Option<Met>
             }
             match marks[depth - 1] {
                 Mark::Split(_) => None,
-                Mark::Junction(g) => Some(Met {
-                    group: g,
-                    vertex: true,
-                    depth,
-                }),
+                Mark::Junction(g) => Some(Met(g, true, depth)),
             }
         }
         Symbol::JunctionClose => {
@@ -113,11 +89,7 @@ fn meet(s: Symbol, marks: &mut [Mark], depth: usize, k: u16) -> Option<Met>
             }
             match marks[depth - 1] {
                 Mark::Split(_) => None,
-                Mark::Junction(g) => Some(Met {
-                    group: g,
-                    vertex: true,
-                    depth: depth - 1,
-                }),
+                Mark::Junction(g) => Some(Met(g, true, depth - 1)),
             }
         }
     }
@@ -138,15 +110,16 @@ fn read_records(symbols: &[Symbol], out: &mut [Crossing]) -> Option<usize>
             road += 1;
             continue;
         }
-        let Some(m) = meet(s, &mut marks, depth, k) else {
+        let Some(met) = meet(s, &mut marks, depth, k) else {
             return None;
         };
+        let Met(group, vertex, open) = met;
         out[usize::from(k)] = Crossing {
             road,
-            group: m.group,
-            vertex: m.vertex,
+            group,
+            vertex,
         };
-        depth = m.depth;
+        depth = open;
         k += 1;
     }
     if depth != 0 {

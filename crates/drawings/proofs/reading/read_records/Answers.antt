@@ -20,11 +20,11 @@ returns-in-rest-meet c =
 pub loop-i-again : need.loop-i-again
 loop-i-again c =
     subst
-    (λ (p : ℕ). Reading (c .args .symbols .now) (c .loop-i .i + 1) (c .loop-i .road) (c .loop-i .k + 1) (c .in-Some .m .depth) (c .meet .last .marks)
-    (set (c .loop-i .out) p (record { road = c .loop-i .road; group = c .in-Some .m .group; vertex = c .in-Some .m .vertex })))
+    (λ (p : ℕ). Reading (c .args .symbols .now) (c .loop-i .i + 1) (c .loop-i .road) (c .loop-i .k + 1) (c .in-Some .met .2) (c .meet .last .marks)
+    (set (c .loop-i .out) p (record { road = c .loop-i .road; group = c .in-Some .met .0; vertex = c .in-Some .met .1 })))
     (sym (c .from .ensures))
-    (read-more (c .args .symbols .now) (c .loop-i .i) (c .loop-i .road) (c .loop-i .k) (c .loop-i .depth) (c .in-Some .m .depth) (c .in-Some .m .group)
-    (c .in-Some .m .vertex) (c .loop-i .marks) (c .meet .last .marks) (c .loop-i .out) (c .loop-i-test .taken) (omega arith) (c .in-rest .not-Corner)
+    (read-more (c .args .symbols .now) (c .loop-i .i) (c .loop-i .road) (c .loop-i .k) (c .loop-i .depth) (c .in-Some .met .2) (c .in-Some .met .0)
+    (c .in-Some .met .1) (c .loop-i .marks) (c .meet .last .marks) (c .loop-i .out) (c .loop-i-test .taken) (omega arith) (c .in-rest .not-Corner)
     (c .in-Some .ensures tt .deep) (c .meet .kept .marks) (c .in-Some .ensures tt .same) (c .loop-i .inv))
 
 pub returns-then-depth-ne0 : need.returns-then-depth-ne0
