@@ -1,1 +1,4 @@
 pub mod Sheets
+pub mod Darts
+pub mod Streets
+pub mod Statements

@@ -46,7 +46,7 @@ crossing-none (c ∷ d) q (suc p) h =
       | inr b ↦ (let z : count-on q d ≤ suc p = rw b at h in rw (b, crossing-none d q (suc p) z))
     ]
 
-abbrev Found : List Crossing → ℕ → ℕ → ℕ → Type 0
+abbrev pub Found : List Crossing → ℕ → ℕ → ℕ → Type 0
 Found d q p i = (i < length d) × (q ≡ at d i .road) × (count-on q (take i d) ≡ p)
 
 one-on-is : (o : Option ℕ) (i : ℕ) → one-on o ≡ Some i → (j : ℕ) × (o ≡ Some j) × (i ≡ suc j)
@@ -57,7 +57,7 @@ step : (c : Crossing) (d : List Crossing) (q p r i j : ℕ) → i ≡ suc j → 
 step c d q p r i j e n f =
     subst (λ (x : ℕ). Found (c ∷ d) q p x) (sym e) (omega (arith, f .0), f .1, n)
 
-crossing-found : (d : List Crossing) (q p i : ℕ) → crossing-at d q p ≡ Some i → Found d q p i
+pub crossing-found : (d : List Crossing) (q p i : ℕ) → crossing-at d q p ≡ Some i → Found d q p i
 crossing-found [] q p i e = (let z : _≡_ {A = ℕ} 0 1 = cc in absurd (omega arith))
 crossing-found (c ∷ d) q zero i e =
     elim (cases-bool (eqb q (c .road))) [

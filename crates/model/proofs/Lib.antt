@@ -1,0 +1,4 @@
+pub mod Pixels
+pub mod Inside
+pub mod Passing
+pub mod Listing

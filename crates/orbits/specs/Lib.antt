@@ -1,0 +1,2 @@
+pub mod Orbits
+pub mod Statements
