@@ -1,0 +1,23 @@
+// The worked examples.
+ghost use Rattle.plates.specs.Plates.{Sheets-shown};
+ghost use Rattle.plates.specs.Worked.{Words-worked, Tables-worked, Sheets-worked};
+
+// Lists, refusals and counts of small sheets.
+pub fn sheets_are_shown()
+    ensures { λ _. ⌜ Sheets-shown ⌝ }
+{}
+
+// Words that were worked out elsewhere.
+pub fn words_are_worked()
+    ensures { λ _. ⌜ Words-worked ⌝ }
+{}
+
+// Tables that were worked out elsewhere.
+pub fn tables_are_worked()
+    ensures { λ _. ⌜ Tables-worked ⌝ }
+{}
+
+// Sheets that were worked out elsewhere.
+pub fn sheets_are_worked()
+    ensures { λ _. ⌜ Sheets-worked ⌝ }
+{}
