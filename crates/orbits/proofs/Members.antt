@@ -1,4 +1,7 @@
 -- Membership, lists without repetition, and the pigeonhole.
+--   in-left, in-right, in-either: membership in two lists put together
+--   apart-append, apart-unless, apart-kept, apart-joined: lists without repetition
+--   in-kept, kept-in, in-joined, joined-in, in-map, map-in: membership in what is kept, joined or mapped
 use mathlib.Core.Path.{_≡_, refl, sym, _∙_, ap, subst}
 use mathlib.Core.List.{List, [], _∷_, _++_, map}
 use mathlib.Core.Bool.{Bool, true}

@@ -1,4 +1,6 @@
 -- The least dart of a loop.
+--   lower-left, lower-right: the lesser of two
+--   rooted: the statement, for one system
 use mathlib.Core.Path.{_≡_, refl, sym, _∙_, subst}
 use mathlib.Core.List.{List, [], _∷_}
 use mathlib.Core.Bool.{Bool, true, false, cond}

@@ -1,4 +1,6 @@
 -- Rings, sidewalks, and what they cover.
+--   quiet-..: none of the first so many passes
+--   rings, walked, stopped, covered: the statements, for one system
 use mathlib.Core.Path.{_≡_, refl, sym, _∙_, ap, subst}
 use mathlib.Core.List.{List, [], _∷_, _++_}
 use mathlib.Core.Bool.{Bool, true, false, cond}

@@ -1,4 +1,6 @@
 -- Two systems with the same lines.
+--   same: equal lines have the same darts, next and starts
+--   listed: and the other way round
 use mathlib.Core.Path.{_≡_, refl, sym, _∙_, ap, ap₂, subst}
 use mathlib.Core.List.{List, [], _∷_, _++_, map}
 use mathlib.Core.Bool.{Bool, true, false, cond}

@@ -1,4 +1,7 @@
 -- Steps of a function; the return; loops.
+--   First: the first place at which a test passes
+--   pigeon, returns: too many members repeat; going on comes back
+--   loop-..: what a loop is
 use mathlib.Core.Path.{_≡_, refl, sym, _∙_, ap, subst}
 use mathlib.Core.List.{List, [], _∷_}
 use mathlib.Core.Bool.{Bool, true, false}

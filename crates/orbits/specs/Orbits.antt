@@ -1,4 +1,16 @@
 -- Orbits of a one-to-one function on a finite list, and the sidewalks that cut them where a test passes.
+--   In, Apart, Repeats: an element stands in a list; none stands twice; some stands twice
+--   last: the last element of a list
+--   times, steps: a function applied so often; the elements on the way
+--   first: how many steps until a test passes
+--   walk: the elements up to the one whose next passes a test
+--   quiet: none of the first so many passes a test
+--   System: a list of darts, what follows each, a test of where a sidewalk begins, a test of equality
+--   Lawful: what makes next one-to-one on the darts, none of which stands twice
+--   size, turn, loop: how many darts; how many steps bring one back; the darts of its loop
+--   OnRing, NoRing, ring: no dart of a loop begins a sidewalk; no dart is on such a loop; the same as a test
+--   sidewalk, begins, cover: the sidewalk from a dart; the darts that begin one; all sidewalks one after the other
+--   line, lines: a sidewalk with what follows its last dart; the lines of all sidewalks
 use mathlib.Core.Path.{_≡_}
 use mathlib.Core.List.{List, [], _∷_, map}
 use mathlib.Core.Bool.{Bool, true, false, cond}

@@ -1,4 +1,11 @@
 -- What is proved of every lawful system, at any type.
+--   Pigeonhole, Return, Undone: members of a list that are too many repeat; going on comes back; what undoes next
+--   Looped, Loops: what a loop is
+--   Order, least, root, Rooted, Roots: an order as a test, the least of a list, the least dart of a loop, what it tells
+--   Rings: a ring is found by going on as many steps as there are darts
+--   Walked, Walks, Stopped, Stops: what a sidewalk is, and that nothing else is one
+--   Covered, Covers: what the sidewalks cover, with and without rings
+--   Same, Listed, Tells, Ordered, Twins: what equal lines tell, and what tells that lines are equal
 use mathlib.Core.Path.{_≡_}
 use mathlib.Core.List.{List, [], _∷_}
 use mathlib.Core.Bool.{Bool, true, false, cond}

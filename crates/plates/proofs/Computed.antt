@@ -1,12 +1,12 @@
 -- The examples hold by computation.
 use mathlib.Core.Path.{refl}
 use Rattle.std.specs.Written.{digits}
-use Rattle.plates.specs.Plates.{Sheets-shown}
+use Rattle.plates.specs.Plates.{Plates-shown}
 use Rattle.plates.specs.Worked.{Words-worked, Tables-worked, Sheets-worked}
 
-pub sheets-shown : Sheets-shown
+pub plates-shown : Plates-shown
 unfolding digits
-sheets-shown = (refl, (refl, (refl, (refl, tt))))
+plates-shown = (refl, (refl, (refl, (refl, (refl, (refl, (refl, (refl, (refl, (refl, (refl, (refl, (refl, (refl, (refl, tt)))))))))))))))
 
 pub words-worked : Words-worked
 words-worked = (refl, (refl, (refl, (refl, (refl, (refl, (refl, (refl, (refl, (refl, (refl, (refl, (refl, (refl, (refl, (refl, (refl, (refl, (refl, (refl, (refl, (refl, (refl, (refl, (refl, (refl, (refl, (refl, (refl, (refl, (refl, (refl, (refl, (refl, (refl, (refl, (refl, (refl, (refl, (refl, (refl, (refl, (refl, (refl, (refl, (refl, (refl, (refl, tt))))))))))))))))))))))))))))))))))))))))))))))))

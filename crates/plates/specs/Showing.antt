@@ -4,6 +4,7 @@
 --   built-text: the text of the word that a table builds
 --   sheet-from: the sheet of words given by their texts; nothing where one is no word
 --   list-of, count-of: the street list and the count of such a sheet
+--   entered-from: the pixel, road code and place at which a dart of such a sheet enters
 --   lines-text: lines of text, each ended by byte 10
 --   All-hold: each pair of a list is of two equal things
 use mathlib.Core.Path.{_≡_}
@@ -20,11 +21,14 @@ use Rattle.symbols.specs.declared.refusals.Refusal.{Refusal}
 use Rattle.symbols.specs.declared.symbols.Crossing.{Crossing}
 use Rattle.symbols.specs.declared.symbols.Symbol.{Symbol}
 use Rattle.symbols.specs.Refusals.{number, values}
-use Rattle.symbols.specs.Symbols.{text}
+use Rattle.symbols.specs.declared.roads.Road.{Road}
+use Rattle.symbols.specs.Symbols.{road-code, text}
 use Rattle.rules.specs.Words.{Drawing, drawn, read-word}
 use Rattle.rules.specs.Tables.{build-word}
 use Rattle.rules.specs.Statements.{exits}
 use Rattle.model.specs.Sheets.{Sheet}
+use Rattle.model.specs.declared.darts.Dart.{Dart}
+use Rattle.model.specs.Darts.{dart, opposite}
 use Rattle.model.specs.Streets.{Counts, check, count, street-list}
 
 abbrev pub told : {A B : Type 0} → (A → B) → Result A Refusal → Result B (List ℕ)
@@ -59,6 +63,13 @@ numbers-in (Err f) = Err f
 
 abbrev pub count-of : ℕ → ℕ → List (List ℕ) → Result (List ℕ) (List ℕ)
 count-of w h ts = numbers-in (of-sheet w h count (all-drawn ts))
+
+abbrev pub numbers-of : Result Dart (List ℕ) → Result (List ℕ) (List ℕ)
+numbers-of (Ok d) = Ok (d .pixel ∷ road-code (d .road) ∷ d .place ∷ [])
+numbers-of (Err f) = Err f
+
+abbrev pub entered-from : ℕ → ℕ → List (List ℕ) → ℕ → Road → ℕ → Result (List ℕ) (List ℕ)
+entered-from w h ts p q k = numbers-of (of-sheet w h (λ s. opposite s (dart p q k)) (all-drawn ts))
 
 abbrev pub lines-text : List (List ℕ) → List ℕ
 lines-text ls = joined (λ l. l ++ (10 ∷ [])) ls

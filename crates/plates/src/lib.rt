@@ -1,10 +1,10 @@
 // The worked examples.
-ghost use Rattle.plates.specs.Plates.{Sheets-shown};
+ghost use Rattle.plates.specs.Plates.{Plates-shown};
 ghost use Rattle.plates.specs.Worked.{Words-worked, Tables-worked, Sheets-worked};
 
-// Lists, refusals and counts of small sheets.
-pub fn sheets_are_shown()
-    ensures { λ _. ⌜ Sheets-shown ⌝ }
+// The worked examples of words, tables and small sheets.
+pub fn plates_are_shown()
+    ensures { λ _. ⌜ Plates-shown ⌝ }
 {}
 
 // Words that were worked out elsewhere.
