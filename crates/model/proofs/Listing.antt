@@ -35,16 +35,16 @@ use Rattle.model.proofs.Passing.{next-given, next-one}
 
 -- numbers
 
-in-from : (i n k : ℕ) → i ≤ k → k < i + n → In k (from-on i n)
+pub in-from : (i n k : ℕ) → i ≤ k → k < i + n → In k (from-on i n)
 in-from i zero k a b = absurd (omega arith)
 in-from i (suc n) k a b = elim (cases-eq k i) [ inl e ↦ inl e | inr d ↦ inr (in-from (suc i) n k (omega arith) (omega arith)) ]
 
-from-in : (i n k : ℕ) → In k (from-on i n) → (i ≤ k) × (k < i + n)
+pub from-in : (i n k : ℕ) → In k (from-on i n) → (i ≤ k) × (k < i + n)
 from-in i zero k m = absurd m
 from-in i (suc n) k (inl e) = (omega arith, omega arith)
 from-in i (suc n) k (inr m) = (let r = from-in (suc i) n k m in (omega (arith, r .0), omega (arith, r .1)))
 
-road-in : (q : Road) → In q roads
+pub road-in : (q : Road) → In q roads
 road-in West = inl refl
 road-in North = inr (inl refl)
 road-in East = inr (inr (inl refl))

@@ -1,0 +1,5 @@
+use Rattle.codec.proofs.refusals_right.Needs as need
+use Rattle.codec.proofs.Theorems.{refusals-right}
+
+pub returns : need.returns
+returns c = refusals-right
