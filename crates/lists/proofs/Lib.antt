@@ -1,2 +1,4 @@
 pub mod Covering
 pub mod Texts
+pub mod Maps
+pub mod Telling

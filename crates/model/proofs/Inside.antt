@@ -77,7 +77,7 @@ road-back North = refl
 road-back East = refl
 road-back South = refl
 
-code-back : (n : ℕ) → n ≤ 3 → road-code (getD roads n West) ≡ n
+pub code-back : (n : ℕ) → n ≤ 3 → road-code (getD roads n West) ≡ n
 code-back zero h = refl
 code-back (suc zero) h = refl
 code-back (suc (suc zero)) h = refl

@@ -39,10 +39,10 @@ count-low : (t : List Crossing) (r q : ℕ) → q < r → Sorted r t → count-o
 count-low [] r q h s = refl
 count-low (c ∷ cs) r q h s = count-off q c cs (omega (arith, s .0)) ∙ count-low cs (c .road) q (omega (arith, s .0)) (s .2)
 
-abbrev Level : List Crossing → List Crossing → Type 0
+abbrev pub Level : List Crossing → List Crossing → Type 0
 Level s t = (length s ≡ length t) × ((i : ℕ) → i < length s → at s i .road ≡ at t i .road)
 
-abbrev Even : List Crossing → List Crossing → Type 0
+abbrev pub Even : List Crossing → List Crossing → Type 0
 Even s t = (q : ℕ) → q < 4 → count-on q s ≡ count-on q t
 
 -- one that begins lower has more of its first road
@@ -58,7 +58,7 @@ tails c d cs ds p e q h =
           omega (arith, e q h, count-off q c cs n, count-off q d ds (λ x. n (x ∙ sym p))))
     ]
 
-level : (s t : List Crossing) (a b : ℕ) → Sorted a s → Sorted b t → Even s t → Level s t
+pub level : (s t : List Crossing) (a b : ℕ) → Sorted a s → Sorted b t → Even s t → Level s t
 level [] [] a b u v e = (refl, λ i h. absurd (omega arith))
 level [] (d ∷ ds) a b u v e = absurd (omega (arith, e (d .road) (omega (arith, v .1)), count-here (d .road) d ds refl))
 level (c ∷ cs) [] a b u v e = absurd (omega (arith, e (c .road) (omega (arith, u .1)), count-here (c .road) c cs refl))
