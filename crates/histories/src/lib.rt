@@ -5,5 +5,4 @@ ghost use Rattle.histories.specs.Statements.{Histories-tell};
 // are records, exactly when both sheets have one size and the same drawing accepted last at every pixel.
 pub fn histories_tell()
     ensures { λ _. ⌜ Histories-tell ⌝ }
-{
-}
+{}

@@ -93,12 +93,11 @@ sheets-same s t k l m =
 pub lists-tell : Lists-tell
 lists-tell s t k l a b ea eb =
     let p = given-list (check s) (list-text (s .width) (s .height) (street-lines s)) a ea in
-    let q = given-list (check t) (list-text (t .width) (t .height) (street-lines t)) b eb in
-    (
+    let q = given-list (check t) (list-text (t .width) (t .height) (street-lines t)) b eb in (
       λ e.
           let r = texts-tell (s .width) (s .height) (t .width) (t .height) (street-lines s) (street-lines t)
-              (omega (arith, k .most-width)) (omega (arith, k .most-height)) (omega (arith, l .most-width)) (omega (arith, l .most-height))
-              (lines-fit s k (p .0)) (lines-fit t l (q .0)) (p .1 ∙ e ∙ sym (q .1)) in
+          (omega (arith, k .most-width)) (omega (arith, k .most-height)) (omega (arith, l .most-width)) (omega (arith, l .most-height))
+          (lines-fit s k (p .0)) (lines-fit t l (q .0)) (p .1 ∙ e ∙ sym (q .1)) in
           let fs = check-free s (p .0) in
           let ft = check-free t (q .0) in
           let ls = circles-lawful s k fs in

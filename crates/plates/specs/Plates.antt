@@ -8,7 +8,7 @@ use Rattle.std.specs.declared.result.Result.{Result}
 use Rattle.std.specs.declared.result.Result.the-variants.{Ok, Err}
 use Rattle.symbols.specs.declared.roads.Road.the-variants.{East}
 use Rattle.rules.specs.Statements.{four-on-w}
-use Rattle.plates.specs.Showing.{exits-of, built-text, entered-from, list-of, count-of, lines-text, All-hold}
+use Rattle.plates.specs.Showing.{exits-of, built-text, entered-from, list-of, record-of, count-of, lines-text, All-hold}
 
 abbrev pub ring-sheet : List (List ℕ)
 ring-sheet = codes "++[+]+" ∷ codes "[+++]+" ∷ codes "+[+]++" ∷ codes "[+]+++" ∷ []
@@ -39,5 +39,6 @@ Plates-shown = All-hold (
     ∷ (list-of 2 2 ring-sheet, Err (13 ∷ 0 ∷ 2 ∷ 0 ∷ []))
     ∷ (list-of 2 2 street-sheet, Ok (lines-text (codes "2 2" ∷ codes "0E0 1S0 3W0 2N0 > 0E0" ∷ codes "0S0 2E0 3N0 1W0 > 0S0" ∷ [])))
     ∷ (count-of 2 2 street-sheet, Ok (1 ∷ 1 ∷ 2 ∷ []))
+    ∷ (record-of 2 1 pair-sheet, Ok (1 ∷ 2 ∷ 1 ∷ 0 ∷ 1 ∷ 0 ∷ 0 ∷ 0 ∷ 2 ∷ 0 ∷ 128 ∷ 64 ∷ 0 ∷ []))
     ∷ (list-of 2 1 pair-sheet, Ok (lines-text (codes "2 1" ∷ codes "0E0 > 1W0" ∷ codes "1W0 > 0E0" ∷ [])))
     ∷ [])

@@ -4,6 +4,8 @@
 --   built-text: the text of the word that a table builds
 --   sheet-from: the sheet of words given by their texts; nothing where one is no word
 --   list-of, count-of: the street list and the count of such a sheet
+--   record-of: the record of such a sheet
+--   list-read: the street list of the sheet that a record tells, refused with 15 where it tells none
 --   entered-from: the pixel, road code and place at which a dart of such a sheet enters
 --   lines-text: lines of text, each ended by byte 10
 --   All-hold: each pair of a list is of two equal things
@@ -18,6 +20,7 @@ use Rattle.std.specs.declared.result.Result.{Result}
 use Rattle.std.specs.declared.result.Result.the-variants.{Ok, Err}
 use Rattle.std.specs.shelf.Lists.{joined}
 use Rattle.symbols.specs.declared.refusals.Refusal.{Refusal}
+use Rattle.symbols.specs.declared.refusals.Refusal.the-variants.{BadRecord}
 use Rattle.symbols.specs.declared.symbols.Crossing.{Crossing}
 use Rattle.symbols.specs.declared.symbols.Symbol.{Symbol}
 use Rattle.symbols.specs.Refusals.{number, values}
@@ -29,7 +32,8 @@ use Rattle.rules.specs.Statements.{exits}
 use Rattle.model.specs.Sheets.{Sheet}
 use Rattle.model.specs.declared.darts.Dart.{Dart}
 use Rattle.model.specs.Darts.{dart, opposite}
-use Rattle.model.specs.Streets.{Counts, check, count, street-list}
+use Rattle.model.specs.Streets.{Counts, count, street-list}
+use Rattle.codec.specs.Records.{bytes-of, sheet-of}
 
 abbrev pub told : {A B : Type 0} → (A → B) → Result A Refusal → Result B (List ℕ)
 told f (Ok x) = Ok (f x)
@@ -56,6 +60,16 @@ of-sheet w h f (Some ds) = told (λ x. x) (f (record { width = w; height = h; dr
 
 abbrev pub list-of : ℕ → ℕ → List (List ℕ) → Result (List ℕ) (List ℕ)
 list-of w h ts = of-sheet w h street-list (all-drawn ts)
+
+abbrev pub record-of : ℕ → ℕ → List (List ℕ) → Result (List ℕ) (List ℕ)
+record-of w h ts = of-sheet w h (λ s. Ok (bytes-of s)) (all-drawn ts)
+
+abbrev pub list-in : Option Sheet → Result (List ℕ) Refusal
+list-in None = Err BadRecord
+list-in (Some s) = street-list s
+
+abbrev pub list-read : List ℕ → Result (List ℕ) (List ℕ)
+list-read bs = told (λ x. x) (list-in (sheet-of bs))
 
 abbrev pub numbers-in : Result Counts (List ℕ) → Result (List ℕ) (List ℕ)
 numbers-in (Ok c) = Ok (c .vertex-count ∷ c .street-count ∷ c .loop-count ∷ [])

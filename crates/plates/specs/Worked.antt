@@ -2,13 +2,15 @@
 --   Words-worked: where lines that enter at a word's crossings leave, or the refusal
 --   Tables-worked: the text of the word that a table builds, or the refusal
 --   Sheets-worked: the street list of a sheet, or the refusal with its place
+--   Records-worked: the record of a sheet
+--   Readings-worked: the street list of the sheet that a record tells, or the refusal
 use mathlib.Core.Bool.{true, false}
 use mathlib.Core.List.{List, [], _∷_}
 use lib.Chars.{codes}
 use Rattle.std.specs.declared.result.Result.{Result}
 use Rattle.std.specs.declared.result.Result.the-variants.{Ok, Err}
 use Rattle.rules.specs.Words.{crossing}
-use Rattle.plates.specs.Showing.{exits-of, built-text, list-of, lines-text, All-hold}
+use Rattle.plates.specs.Showing.{exits-of, built-text, list-of, record-of, list-read, lines-text, All-hold}
 
 -- of words
 abbrev pub Words-worked : Type 0
@@ -133,4 +135,86 @@ Sheets-worked = All-hold (
     ∷ (list-of 4 1 (codes "++++" ∷ codes "++++" ∷ codes "++++" ∷ codes "++++" ∷ []), Ok (lines-text (codes "4 1" ∷ [])))
     ∷ (list-of 3 1 (codes "++[[(=((()=)=YY)==)]]++" ∷ codes "((((((([([(=)])])))++))))++" ∷ codes "()()++++" ∷ []), Ok (lines-text (codes "3 1" ∷ codes "0E2 > 1W6" ∷ codes "0E3 1W7 > 0E4" ∷ codes "0E4 > 1W8" ∷ codes "0E5 1W9 > 0E5" ∷ codes "0E6 > 1W10" ∷ codes "0E7 > 1W11" ∷ codes "0E8 > 1W12" ∷ codes "0E9 1W13 > 0E9" ∷ codes "0E10 > 1W14" ∷ codes "0E11 1W15 > 0E3" ∷ codes "0E12 > 1W16" ∷ codes "0E13 > 1W17" ∷ codes "0E14 > 1W18" ∷ codes "0E15 > 1E0" ∷ codes "0E16 > 1E1" ∷ codes "1W0 0E0 > 1W4" ∷ codes "1W1 0E1 > 1W5" ∷ codes "1W2 > 0E2" ∷ codes "1W3 > 0E15" ∷ codes "1W4 > 0E14" ∷ codes "1W5 > 0E12" ∷ codes "1W6 > 0E11" ∷ codes "1W8 > 0E10" ∷ codes "1W10 > 0E8" ∷ codes "1W11 > 0E6" ∷ codes "1W12 > 0E7" ∷ codes "1W14 > 0E13" ∷ codes "1W16 > 0E16" ∷ codes "1W17 0E17 > 1E2" ∷ codes "1W18 0E18 > 1E3" ∷ codes "1E0 > 2W2" ∷ codes "1E1 > 2W3" ∷ codes "1E2 > 2W0" ∷ codes "1E3 > 2W1" ∷ codes "2W0 > 1W0" ∷ codes "2W1 > 1W1" ∷ codes "2W2 > 1W2" ∷ codes "2W3 > 1W3" ∷ [])))
     ∷ (list-of 2 3 (codes "[+++]+" ∷ codes "++++" ∷ codes "=++++" ∷ codes "((Y(Y[[[([([[(Y[]=[][[+[([[[[=[]]]+]])]]])]])])]+]])))+" ∷ codes "++=++" ∷ codes "=++++" ∷ []), Err (12 ∷ 0 ∷ 0 ∷ []))
+    ∷ [])
+
+-- of records that are written
+abbrev pub Records-worked : Type 0
+Records-worked = All-hold (
+    (record-of 2 4 (codes "++=++" ∷ codes "=++++" ∷ codes "++++" ∷ codes "++++" ∷ codes "+++=[][]+" ∷ codes "++++" ∷ codes "+===[]+++" ∷ codes "++++" ∷ []), Ok (1 ∷ 2 ∷ 4 ∷ 0 ∷ 3 ∷ 0 ∷ 0 ∷ 0 ∷ 2 ∷ 0 ∷ 4 ∷ 0 ∷ 1 ∷ 0 ∷ 6 ∷ 0 ∷ 1 ∷ 0 ∷ 128 ∷ 64 ∷ 0 ∷ 0 ∷ 83 ∷ 76 ∷ 2 ∷ 74 ∷ 96 ∷ 0 ∷ []))
+    ∷ (record-of 3 2 (codes "++[=+]+" ∷ codes "++++" ∷ codes "[]+(+)(+)=+" ∷ codes "+=+[]++" ∷ codes "++++" ∷ codes "==++=(=+Y)+" ∷ []), Ok (1 ∷ 3 ∷ 2 ∷ 0 ∷ 3 ∷ 0 ∷ 0 ∷ 0 ∷ 1 ∷ 0 ∷ 2 ∷ 0 ∷ 2 ∷ 0 ∷ 5 ∷ 0 ∷ 1 ∷ 1 ∷ 16 ∷ 194 ∷ 98 ∷ 13 ∷ 6 ∷ 32 ∷ 16 ∷ 152 ∷ 4 ∷ 128 ∷ 97 ∷ 23 ∷ 0 ∷ []))
+    ∷ (record-of 4 2 (codes "=++=++" ∷ codes "(+=++)+" ∷ codes "++(+Y)+" ∷ codes "=++++" ∷ codes "+++=+" ∷ codes "+(+)++" ∷ codes "(+YY+)++" ∷ codes "=++++" ∷ []), Ok (1 ∷ 4 ∷ 2 ∷ 0 ∷ 1 ∷ 0 ∷ 0 ∷ 0 ∷ 8 ∷ 32 ∷ 16 ∷ 32 ∷ 32 ∷ 96 ∷ 4 ∷ 23 ∷ 2 ∷ 0 ∷ 0 ∷ 2 ∷ 4 ∷ 24 ∷ 8 ∷ 45 ∷ 24 ∷ 2 ∷ 0 ∷ 0 ∷ []))
+    ∷ (record-of 5 2 (codes "++++" ∷ codes "++++" ∷ codes "++++" ∷ codes "++++" ∷ codes "++++" ∷ codes "++++" ∷ codes "++++" ∷ codes "++++" ∷ codes "++++" ∷ codes "++++" ∷ []), Ok (1 ∷ 5 ∷ 2 ∷ 0 ∷ 0 ∷ []))
+    ∷ (record-of 2 2 (codes "++()=[+]+" ∷ codes "[=(=+++)()]+" ∷ codes "+[+][==[]]++" ∷ codes "((([])[+]=))+++" ∷ []), Ok (1 ∷ 2 ∷ 2 ∷ 0 ∷ 1 ∷ 0 ∷ 0 ∷ 0 ∷ 4 ∷ 2 ∷ 98 ∷ 131 ∷ 8 ∷ 194 ∷ 0 ∷ 211 ∷ 48 ∷ 16 ∷ 104 ∷ 148 ∷ 216 ∷ 18 ∷ 68 ∷ 242 ∷ 12 ∷ 236 ∷ 0 ∷ []))
+    ∷ (record-of 1 2 (codes "()[]+()[+][]+()+" ∷ codes "===================+==+======+=+" ∷ []), Ok (1 ∷ 1 ∷ 2 ∷ 0 ∷ 1 ∷ 0 ∷ 0 ∷ 0 ∷ 2 ∷ 153 ∷ 49 ∷ 50 ∷ 13 ∷ 49 ∷ 48 ∷ 36 ∷ 146 ∷ 73 ∷ 36 ∷ 146 ∷ 73 ∷ 36 ∷ 130 ∷ 65 ∷ 36 ∷ 146 ∷ 8 ∷ []))
+    ∷ (record-of 3 2 (codes "++++" ∷ codes "++++" ∷ codes "++++" ∷ codes "[[+[]][][]][+][[[[]]][]][[[][]]]+[=]+" ∷ codes "++++" ∷ codes "++++" ∷ []), Ok (1 ∷ 3 ∷ 2 ∷ 0 ∷ 1 ∷ 0 ∷ 3 ∷ 0 ∷ 1 ∷ 72 ∷ 38 ∷ 211 ∷ 77 ∷ 160 ∷ 210 ∷ 73 ∷ 182 ∷ 155 ∷ 73 ∷ 52 ∷ 219 ∷ 8 ∷ 176 ∷ []))
+    ∷ (record-of 5 1 (codes "++++" ∷ codes "++++" ∷ codes "++++" ∷ codes "++++" ∷ codes "++++" ∷ []), Ok (1 ∷ 5 ∷ 1 ∷ 0 ∷ 0 ∷ []))
+    ∷ (record-of 1 3 (codes "++++" ∷ codes "++++" ∷ codes "++++" ∷ []), Ok (1 ∷ 1 ∷ 3 ∷ 0 ∷ 0 ∷ []))
+    ∷ (record-of 4 1 (codes "++++" ∷ codes "++===++" ∷ codes "(()++)=++" ∷ codes "[]++++" ∷ []), Ok (1 ∷ 4 ∷ 1 ∷ 0 ∷ 1 ∷ 0 ∷ 1 ∷ 0 ∷ 3 ∷ 0 ∷ 146 ∷ 4 ∷ 152 ∷ 12 ∷ 64 ∷ 76 ∷ 0 ∷ 0 ∷ []))
+    ∷ (record-of 1 3 (codes "+++=+" ∷ codes "+=+++" ∷ codes "++++" ∷ []), Ok (1 ∷ 1 ∷ 3 ∷ 0 ∷ 1 ∷ 0 ∷ 0 ∷ 0 ∷ 2 ∷ 0 ∷ 16 ∷ 8 ∷ 0 ∷ []))
+    ∷ (record-of 2 3 (codes "++++" ∷ codes "++++" ∷ codes "++++" ∷ codes "++++" ∷ codes "++++" ∷ codes "++++" ∷ []), Ok (1 ∷ 2 ∷ 3 ∷ 0 ∷ 0 ∷ []))
+    ∷ (record-of 1 1 (codes "++++" ∷ []), Ok (1 ∷ 1 ∷ 1 ∷ 0 ∷ 0 ∷ []))
+    ∷ (record-of 2 3 (codes "++++" ∷ codes "++++" ∷ codes "++++" ∷ codes "++++" ∷ codes "++++" ∷ codes "=[[]+]+[[]]+[[][][[[[]]]]]+" ∷ []), Ok (1 ∷ 2 ∷ 3 ∷ 0 ∷ 1 ∷ 0 ∷ 5 ∷ 0 ∷ 1 ∷ 41 ∷ 48 ∷ 194 ∷ 77 ∷ 132 ∷ 154 ∷ 105 ∷ 36 ∷ 219 ∷ 108 ∷ 0 ∷ []))
+    ∷ (record-of 2 3 (codes "++++" ∷ codes "+++[][]=+" ∷ codes "+++[[]]+" ∷ codes "+[=[(Y++)]]+" ∷ codes "+(YY)+++" ∷ codes "+(=)+++" ∷ []), Ok (1 ∷ 2 ∷ 3 ∷ 0 ∷ 1 ∷ 0 ∷ 1 ∷ 0 ∷ 5 ∷ 0 ∷ 38 ∷ 153 ∷ 0 ∷ 4 ∷ 155 ∷ 1 ∷ 21 ∷ 40 ∷ 25 ∷ 176 ∷ 37 ∷ 184 ∷ 0 ∷ 33 ∷ 192 ∷ 0 ∷ []))
+    ∷ (record-of 3 1 (codes "=++=++" ∷ codes "=++++" ∷ codes "++++" ∷ []), Ok (1 ∷ 3 ∷ 1 ∷ 0 ∷ 1 ∷ 0 ∷ 0 ∷ 0 ∷ 2 ∷ 32 ∷ 16 ∷ 8 ∷ 0 ∷ 0 ∷ []))
+    ∷ (record-of 1 2 (codes "++++" ∷ codes "++++" ∷ []), Ok (1 ∷ 1 ∷ 2 ∷ 0 ∷ 0 ∷ []))
+    ∷ (record-of 4 1 (codes "(+(+))++" ∷ codes "+()()[]+++" ∷ codes "[]+[]+++" ∷ codes "++++" ∷ []), Ok (1 ∷ 4 ∷ 1 ∷ 0 ∷ 1 ∷ 0 ∷ 0 ∷ 0 ∷ 3 ∷ 130 ∷ 13 ∷ 128 ∷ 19 ∷ 76 ∷ 152 ∷ 1 ∷ 48 ∷ 152 ∷ 0 ∷ []))
+    ∷ (record-of 3 2 (codes "++++" ∷ codes "++++" ∷ codes "++++" ∷ codes "++++" ∷ codes "++++" ∷ codes "++++" ∷ []), Ok (1 ∷ 3 ∷ 2 ∷ 0 ∷ 0 ∷ []))
+    ∷ (record-of 4 2 (codes "++++" ∷ codes "++[+]()[]+" ∷ codes "[++]+=+" ∷ codes "[++=+][]+" ∷ codes "++=++" ∷ codes "[+][[]]+++" ∷ codes "+[+]=++" ∷ codes "[[+]]=+++" ∷ []), Ok (1 ∷ 4 ∷ 2 ∷ 0 ∷ 1 ∷ 0 ∷ 1 ∷ 0 ∷ 7 ∷ 1 ∷ 7 ∷ 50 ∷ 97 ∷ 0 ∷ 193 ∷ 8 ∷ 2 ∷ 26 ∷ 96 ∷ 2 ∷ 2 ∷ 13 ∷ 38 ∷ 192 ∷ 1 ∷ 6 ∷ 64 ∷ 72 ∷ 54 ∷ 64 ∷ 0 ∷ []))
+    ∷ [])
+
+-- of records that are read, some of them damaged
+abbrev pub Readings-worked : Type 0
+Readings-worked = All-hold (
+    (list-read (1 ∷ 2 ∷ 4 ∷ 0 ∷ 3 ∷ 0 ∷ 0 ∷ 0 ∷ 2 ∷ 0 ∷ 4 ∷ 0 ∷ 1 ∷ 0 ∷ 6 ∷ 0 ∷ 1 ∷ 0 ∷ 128 ∷ 64 ∷ 0 ∷ 0 ∷ 83 ∷ 76 ∷ 2 ∷ 74 ∷ 96 ∷ 0 ∷ []), Ok (lines-text (codes "2 4" ∷ codes "0E0 > 1W0" ∷ codes "1W0 > 0E0" ∷ codes "4S0 6N3 4S2 > 6N2" ∷ codes "6N0 4S3 > 6N1" ∷ codes "6N1 4S4 > 6N0" ∷ codes "6N2 4S1 6N4 > 4S0" ∷ [])))
+    ∷ (list-read (1 ∷ 3 ∷ 2 ∷ 0 ∷ 3 ∷ 0 ∷ 0 ∷ 0 ∷ 1 ∷ 0 ∷ 2 ∷ 0 ∷ 2 ∷ 0 ∷ 5 ∷ 0 ∷ 1 ∷ 1 ∷ 16 ∷ 194 ∷ 98 ∷ 13 ∷ 6 ∷ 32 ∷ 16 ∷ 152 ∷ 4 ∷ 128 ∷ 97 ∷ 23 ∷ 0 ∷ []), Err (12 ∷ 0 ∷ 2 ∷ []))
+    ∷ (list-read (1 ∷ 4 ∷ 2 ∷ 0 ∷ 1 ∷ 0 ∷ 0 ∷ 0 ∷ 8 ∷ 32 ∷ 16 ∷ 32 ∷ 32 ∷ 96 ∷ 4 ∷ 23 ∷ 2 ∷ 0 ∷ 0 ∷ 2 ∷ 4 ∷ 24 ∷ 8 ∷ 45 ∷ 24 ∷ 2 ∷ 0 ∷ 0 ∷ []), Err (12 ∷ 0 ∷ 0 ∷ []))
+    ∷ (list-read (1 ∷ 5 ∷ 2 ∷ 0 ∷ 0 ∷ []), Ok (lines-text (codes "5 2" ∷ [])))
+    ∷ (list-read (1 ∷ 2 ∷ 2 ∷ 0 ∷ 1 ∷ 0 ∷ 0 ∷ 0 ∷ 4 ∷ 2 ∷ 98 ∷ 131 ∷ 8 ∷ 194 ∷ 0 ∷ 211 ∷ 48 ∷ 16 ∷ 104 ∷ 148 ∷ 216 ∷ 18 ∷ 68 ∷ 242 ∷ 12 ∷ 236 ∷ 0 ∷ []), Err (13 ∷ 0 ∷ 2 ∷ 3 ∷ []))
+    ∷ (list-read (1 ∷ 1 ∷ 2 ∷ 0 ∷ 1 ∷ 0 ∷ 0 ∷ 0 ∷ 2 ∷ 153 ∷ 49 ∷ 50 ∷ 13 ∷ 49 ∷ 48 ∷ 36 ∷ 146 ∷ 73 ∷ 36 ∷ 146 ∷ 73 ∷ 36 ∷ 130 ∷ 65 ∷ 36 ∷ 146 ∷ 8 ∷ []), Err (12 ∷ 0 ∷ 0 ∷ []))
+    ∷ (list-read (1 ∷ 3 ∷ 2 ∷ 0 ∷ 1 ∷ 0 ∷ 3 ∷ 0 ∷ 1 ∷ 72 ∷ 38 ∷ 211 ∷ 77 ∷ 160 ∷ 210 ∷ 73 ∷ 182 ∷ 155 ∷ 73 ∷ 52 ∷ 219 ∷ 8 ∷ 176 ∷ []), Err (12 ∷ 0 ∷ 3 ∷ []))
+    ∷ (list-read (1 ∷ 5 ∷ 1 ∷ 0 ∷ 0 ∷ []), Ok (lines-text (codes "5 1" ∷ [])))
+    ∷ (list-read (1 ∷ 1 ∷ 3 ∷ 0 ∷ 0 ∷ []), Ok (lines-text (codes "1 3" ∷ [])))
+    ∷ (list-read (1 ∷ 4 ∷ 1 ∷ 0 ∷ 1 ∷ 0 ∷ 1 ∷ 0 ∷ 3 ∷ 0 ∷ 146 ∷ 4 ∷ 152 ∷ 12 ∷ 64 ∷ 76 ∷ 0 ∷ 0 ∷ []), Ok (lines-text (codes "4 1" ∷ codes "1E0 > 2W1" ∷ codes "1E1 > 2W2" ∷ codes "1E2 > 2E0" ∷ codes "2W0 > 1E2" ∷ codes "2W1 > 1E1" ∷ codes "2W2 > 1E0" ∷ codes "2E0 3W0 > 2E1" ∷ codes "2E1 3W1 > 2W0" ∷ [])))
+    ∷ (list-read (1 ∷ 1 ∷ 3 ∷ 0 ∷ 1 ∷ 0 ∷ 0 ∷ 0 ∷ 2 ∷ 0 ∷ 16 ∷ 8 ∷ 0 ∷ []), Ok (lines-text (codes "1 3" ∷ codes "0S0 > 1N0" ∷ codes "1N0 > 0S0" ∷ [])))
+    ∷ (list-read (1 ∷ 2 ∷ 3 ∷ 0 ∷ 0 ∷ []), Ok (lines-text (codes "2 3" ∷ [])))
+    ∷ (list-read (1 ∷ 1 ∷ 1 ∷ 0 ∷ 0 ∷ []), Ok (lines-text (codes "1 1" ∷ [])))
+    ∷ (list-read (1 ∷ 2 ∷ 3 ∷ 0 ∷ 1 ∷ 0 ∷ 5 ∷ 0 ∷ 1 ∷ 41 ∷ 48 ∷ 194 ∷ 77 ∷ 132 ∷ 154 ∷ 105 ∷ 36 ∷ 219 ∷ 108 ∷ 0 ∷ []), Err (12 ∷ 3 ∷ 3 ∷ []))
+    ∷ (list-read (1 ∷ 2 ∷ 3 ∷ 0 ∷ 1 ∷ 0 ∷ 1 ∷ 0 ∷ 5 ∷ 0 ∷ 38 ∷ 153 ∷ 0 ∷ 4 ∷ 155 ∷ 1 ∷ 21 ∷ 40 ∷ 25 ∷ 176 ∷ 37 ∷ 184 ∷ 0 ∷ 33 ∷ 192 ∷ 0 ∷ []), Ok (lines-text (codes "2 3" ∷ codes "1S4 3S2 > 5N2" ∷ codes "3N1 1S2 3S1 > 5N1" ∷ codes "3N3 1S0 > 3N3" ∷ codes "3N4 1S1 > 3S0" ∷ codes "3S0 > 5N0" ∷ codes "4N0 2S0 > 4N2" ∷ codes "4N1 2S1 > 4N1" ∷ codes "4N2 2S2 > 4N0" ∷ codes "4N3 2S3 > 4N3" ∷ codes "5N0 3N0 > 1S4" ∷ codes "5N1 3N2 1S3 > 3N1" ∷ codes "5N2 > 3N4" ∷ [])))
+    ∷ (list-read (1 ∷ 3 ∷ 1 ∷ 0 ∷ 1 ∷ 0 ∷ 0 ∷ 0 ∷ 2 ∷ 32 ∷ 16 ∷ 8 ∷ 0 ∷ 0 ∷ []), Err (12 ∷ 0 ∷ 0 ∷ []))
+    ∷ (list-read (1 ∷ 1 ∷ 2 ∷ 0 ∷ 0 ∷ []), Ok (lines-text (codes "1 2" ∷ [])))
+    ∷ (list-read (1 ∷ 4 ∷ 1 ∷ 0 ∷ 1 ∷ 0 ∷ 0 ∷ 0 ∷ 3 ∷ 130 ∷ 13 ∷ 128 ∷ 19 ∷ 76 ∷ 152 ∷ 1 ∷ 48 ∷ 152 ∷ 0 ∷ []), Err (12 ∷ 0 ∷ 0 ∷ []))
+    ∷ (list-read (1 ∷ 3 ∷ 2 ∷ 0 ∷ 0 ∷ []), Ok (lines-text (codes "3 2" ∷ [])))
+    ∷ (list-read (1 ∷ 4 ∷ 2 ∷ 0 ∷ 1 ∷ 0 ∷ 1 ∷ 0 ∷ 7 ∷ 1 ∷ 7 ∷ 50 ∷ 97 ∷ 0 ∷ 193 ∷ 8 ∷ 2 ∷ 26 ∷ 96 ∷ 2 ∷ 2 ∷ 13 ∷ 38 ∷ 192 ∷ 1 ∷ 6 ∷ 64 ∷ 72 ∷ 54 ∷ 64 ∷ 0 ∷ []), Err (12 ∷ 3 ∷ 2 ∷ []))
+    ∷ (list-read (1 ∷ 2 ∷ 17 ∷ 0 ∷ 0 ∷ []), Ok (lines-text (codes "2 17" ∷ [])))
+    ∷ (list-read (1 ∷ 1 ∷ 5 ∷ 0 ∷ 1 ∷ 0 ∷ 0 ∷ 0 ∷ 5 ∷ 0 ∷ 76 ∷ 4 ∷ 160 ∷ 91 ∷ 128 ∷ 150 ∷ 129 ∷ 110 ∷ 2 ∷ 90 ∷ 5 ∷ 183 ∷ 0 ∷ 0 ∷ []), Err (15 ∷ []))
+    ∷ (list-read (1 ∷ 3 ∷ 1 ∷ 0 ∷ 2 ∷ 0 ∷ 2 ∷ 0 ∷ 1 ∷ 0 ∷ 3 ∷ 0 ∷ 0 ∷ 8 ∷ 65 ∷ 152 ∷ []), Err (15 ∷ []))
+    ∷ (list-read (1 ∷ 11 ∷ 1 ∷ 0 ∷ 1 ∷ 0 ∷ 3 ∷ 0 ∷ 8 ∷ 2 ∷ 92 ∷ 4 ∷ 152 ∷ 12 ∷ 4 ∷ 3 ∷ 0 ∷ 128 ∷ 96 ∷ 16 ∷ 8 ∷ 4 ∷ 0 ∷ 0 ∷ 32 ∷ 8 ∷ 85 ∷ 88 ∷ 97 ∷ 128 ∷ []), Err (15 ∷ []))
+    ∷ (list-read (1 ∷ 1 ∷ 2 ∷ 0 ∷ 0 ∷ 0 ∷ 116 ∷ []), Err (15 ∷ []))
+    ∷ (list-read (1 ∷ 10 ∷ 1 ∷ 0 ∷ 1 ∷ 0 ∷ 0 ∷ 0 ∷ 1 ∷ 35 ∷ 128 ∷ []), Err (15 ∷ []))
+    ∷ (list-read (1 ∷ 4 ∷ 1 ∷ 0 ∷ 1 ∷ 255 ∷ 255 ∷ 0 ∷ 2 ∷ 32 ∷ 0 ∷ []), Err (15 ∷ []))
+    ∷ (list-read (1 ∷ 65 ∷ 1 ∷ 0 ∷ 0 ∷ []), Err (15 ∷ []))
+    ∷ (list-read (1 ∷ 2 ∷ 1 ∷ 0 ∷ 1 ∷ 0 ∷ 0 ∷ 0 ∷ 0 ∷ []), Err (15 ∷ []))
+    ∷ (list-read (1 ∷ 1 ∷ 3 ∷ []), Err (15 ∷ []))
+    ∷ (list-read (1 ∷ 4 ∷ 3 ∷ 0 ∷ 2 ∷ 0 ∷ 0 ∷ 0 ∷ 1 ∷ 0 ∷ 10 ∷ 0 ∷ 1 ∷ 4 ∷ 68 ∷ 234 ∷ 15 ∷ 9 ∷ 165 ∷ 16 ∷ 129 ∷ 176 ∷ []), Err (12 ∷ 0 ∷ 1 ∷ []))
+    ∷ (list-read (1 ∷ 1 ∷ 1 ∷ 0 ∷ 0 ∷ []), Ok (lines-text (codes "1 1" ∷ [])))
+    ∷ (list-read (1 ∷ 1 ∷ 3 ∷ 0 ∷ 1 ∷ 0 ∷ 0 ∷ 0 ∷ 3 ∷ 0 ∷ 20 ∷ 192 ∷ 51 ∷ 0 ∷ 64 ∷ 36 ∷ 0 ∷ []), Err (12 ∷ 1 ∷ 3 ∷ []))
+    ∷ (list-read (1 ∷ 2 ∷ 8 ∷ 0 ∷ 4 ∷ 0 ∷ 0 ∷ 0 ∷ 0 ∷ 0 ∷ 2 ∷ 0 ∷ 5 ∷ 0 ∷ 8 ∷ 0 ∷ 2 ∷ 0 ∷ 14 ∷ 0 ∷ 2 ∷ 0 ∷ 18 ∷ 0 ∷ 4 ∷ 9 ∷ 128 ∷ 69 ∷ 128 ∷ 64 ∷ 0 ∷ 146 ∷ 0 ∷ 0 ∷ 128 ∷ 64 ∷ 0 ∷ 2 ∷ 1 ∷ 0 ∷ 0 ∷ []), Err (15 ∷ []))
+    ∷ (list-read (1 ∷ 5 ∷ 1 ∷ []), Err (15 ∷ []))
+    ∷ (list-read (1 ∷ 0 ∷ 1 ∷ 0 ∷ 0 ∷ []), Err (15 ∷ []))
+    ∷ (list-read (1 ∷ 2 ∷ 1 ∷ 0 ∷ 1 ∷ 0 ∷ 0 ∷ 0 ∷ 1 ∷ 36 ∷ 146 ∷ 73 ∷ 32 ∷ 146 ∷ 73 ∷ 36 ∷ 146 ∷ 73 ∷ 36 ∷ 144 ∷ 72 ∷ 36 ∷ 146 ∷ 73 ∷ 36 ∷ 146 ∷ 73 ∷ 36 ∷ 146 ∷ 73 ∷ 36 ∷ 146 ∷ 73 ∷ 36 ∷ 146 ∷ 73 ∷ 36 ∷ 128 ∷ []), Err (15 ∷ []))
+    ∷ (list-read (1 ∷ 11 ∷ 1 ∷ 0 ∷ 2 ∷ 0 ∷ 1 ∷ 0 ∷ 3 ∷ 0 ∷ 5 ∷ 0 ∷ 6 ∷ 1 ∷ 50 ∷ 2 ∷ 76 ∷ 6 ∷ 1 ∷ 0 ∷ 0 ∷ 9 ∷ 2 ∷ 64 ∷ 54 ∷ 0 ∷ 144 ∷ 0 ∷ 0 ∷ 166 ∷ 1 ∷ 152 ∷ 4 ∷ 192 ∷ 36 ∷ 0 ∷ 0 ∷ 161 ∷ []), Err (15 ∷ []))
+    ∷ (list-read (1 ∷ 3 ∷ 1 ∷ 0 ∷ 1 ∷ 0 ∷ 0 ∷ 0 ∷ 1 ∷ 152 ∷ 16 ∷ 42 ∷ []), Err (15 ∷ []))
+    ∷ (list-read (1 ∷ 1 ∷ 1 ∷ 1 ∷ 0 ∷ []), Err (15 ∷ []))
+    ∷ (list-read (1 ∷ 4 ∷ 1 ∷ 0 ∷ 1 ∷ 0 ∷ 1 ∷ 0 ∷ 3 ∷ 50 ∷ 196 ∷ 245 ∷ 134 ∷ 28 ∷ 156 ∷ 134 ∷ 107 ∷ 19 ∷ 215 ∷ 39 ∷ 68 ∷ 184 ∷ 229 ∷ 38 ∷ 57 ∷ 153 ∷ 42 ∷ 120 ∷ 237 ∷ 102 ∷ 20 ∷ 220 ∷ 9 ∷ 18 ∷ 216 ∷ 6 ∷ 192 ∷ 38 ∷ 0 ∷ 0 ∷ []), Err (15 ∷ []))
+    ∷ (list-read (1 ∷ 4 ∷ 5 ∷ 0 ∷ 2 ∷ 0 ∷ 0 ∷ 0 ∷ 1 ∷ 0 ∷ 10 ∷ 0 ∷ 1 ∷ 2 ∷ 96 ∷ 36 ∷ 74 ∷ 36 ∷ 162 ∷ 146 ∷ 72 ∷ 144 ∷ 146 ∷ 40 ∷ 162 ∷ 17 ∷ 72 ∷ 166 ∷ 123 ∷ 49 ∷ 158 ∷ 121 ∷ 237 ∷ 155 ∷ 219 ∷ 108 ∷ 243 ∷ 111 ∷ 55 ∷ 176 ∷ []), Err (15 ∷ []))
+    ∷ (list-read (1 ∷ 4 ∷ 1 ∷ 0 ∷ 2 ∷ 0 ∷ 0 ∷ 0 ∷ 2 ∷ 0 ∷ 3 ∷ 0 ∷ 1 ∷ 68 ∷ 128 ∷ 24 ∷ 17 ∷ 38 ∷ 226 ∷ 70 ∷ 90 ∷ 49 ∷ 45 ∷ 160 ∷ 139 ∷ 41 ∷ 166 ∷ 89 ∷ 154 ∷ 157 ∷ 128 ∷ 0 ∷ 0 ∷ []), Err (15 ∷ []))
+    ∷ (list-read (1 ∷ 2 ∷ 3 ∷ 0 ∷ 1 ∷ 0 ∷ 2 ∷ 0 ∷ 2 ∷ 145 ∷ 68 ∷ 148 ∷ 74 ∷ 69 ∷ 34 ∷ 65 ∷ 36 ∷ 162 ∷ 74 ∷ 40 ∷ 146 ∷ 109 ∷ 224 ∷ 243 ∷ 111 ∷ 54 ∷ 219 ∷ 123 ∷ 60 ∷ 51 ∷ 121 ∷ 183 ∷ 158 ∷ 192 ∷ 36 ∷ 218 ∷ 96 ∷ 16 ∷ []), Err (15 ∷ []))
+    ∷ (list-read (1 ∷ 1 ∷ 3 ∷ 0 ∷ 1 ∷ 0 ∷ 0 ∷ 0 ∷ 3 ∷ 0 ∷ 17 ∷ 18 ∷ 73 ∷ 69 ∷ 36 ∷ 74 ∷ 33 ∷ 34 ∷ 145 ∷ 37 ∷ 20 ∷ 81 ∷ 34 ∷ 222 ∷ 121 ∷ 230 ∷ 222 ∷ 207 ∷ 103 ∷ 155 ∷ 27 ∷ 103 ∷ 131 ∷ 109 ∷ 188 ∷ 4 ∷ 79 ∷ 0 ∷ 0 ∷ []), Err (15 ∷ []))
+    ∷ (list-read (1 ∷ 2 ∷ 4 ∷ 0 ∷ 1 ∷ 0 ∷ 0 ∷ 0 ∷ 1 ∷ 67 ∷ 0 ∷ 0 ∷ []), Err (15 ∷ []))
+    ∷ (list-read (1 ∷ 3 ∷ 3 ∷ 0 ∷ 2 ∷ 0 ∷ 0 ∷ 0 ∷ 2 ∷ 0 ∷ 3 ∷ 0 ∷ 6 ∷ 2 ∷ 12 ∷ 65 ∷ 0 ∷ 0 ∷ 152 ∷ 9 ∷ 144 ∷ 1 ∷ 1 ∷ 0 ∷ 26 ∷ 105 ∷ 164 ∷ 216 ∷ 10 ∷ 65 ∷ 179 ∷ 0 ∷ 204 ∷ 1 ∷ 0 ∷ 177 ∷ 8 ∷ 204 ∷ 16 ∷ []), Err (15 ∷ []))
+    ∷ (list-read (1 ∷ 2 ∷ 3 ∷ 0 ∷ 2 ∷ 0 ∷ 0 ∷ 0 ∷ 2 ∷ 0 ∷ 3 ∷ 0 ∷ 3 ∷ 2 ∷ 96 ∷ 19 ∷ 0 ∷ 16 ∷ 8 ∷ 0 ∷ 4 ∷ 200 ∷ 9 ∷ 144 ∷ []), Err (15 ∷ []))
+    ∷ (list-read (1 ∷ 1 ∷ 2 ∷ 0 ∷ 1 ∷ 0 ∷ 0 ∷ 0 ∷ 1 ∷ 32 ∷ 75 ∷ 65 ∷ 196 ∷ 18 ∷ []), Err (15 ∷ []))
+    ∷ (list-read (1 ∷ 1 ∷ 1 ∷ 0 ∷ 1 ∷ 0 ∷ 0 ∷ 0 ∷ 0 ∷ []), Err (15 ∷ []))
+    ∷ (list-read (1 ∷ 1 ∷ 1 ∷ 0 ∷ 1 ∷ 0 ∷ 0 ∷ 0 ∷ 1 ∷ 72 ∷ 132 ∷ 154 ∷ 73 ∷ 180 ∷ 219 ∷ 105 ∷ 52 ∷ 218 ∷ 109 ∷ 52 ∷ 210 ∷ 109 ∷ 36 ∷ 211 ∷ 108 ∷ 38 ∷ 146 ∷ 105 ∷ 182 ∷ 130 ∷ 77 ∷ 38 ∷ 219 ∷ 0 ∷ []), Err (15 ∷ []))
+    ∷ (list-read (1 ∷ 4 ∷ 2 ∷ 0 ∷ 1 ∷ 0 ∷ 6 ∷ 0 ∷ 1 ∷ 9 ∷ 132 ∷ 251 ∷ 0 ∷ []), Err (15 ∷ []))
     ∷ [])
