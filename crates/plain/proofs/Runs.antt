@@ -129,4 +129,4 @@ last-accepted-there w h l t cs p =
     sym (or-this-empty o) ∙ ap (or-this o) (sym (blank-at (w * h) p)) ∙ at-run s (length-replicate (w * h) []) cs p
 
 pub examples : Examples
-examples = (refl, (refl, (refl, (refl, (refl, (refl, tt))))))
+examples = (refl, (refl, (refl, (refl, (refl, (refl, (refl, (refl, (refl, (refl, tt))))))))))

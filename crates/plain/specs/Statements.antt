@@ -11,6 +11,7 @@
 --   told: the number of a refusal; 0 of an answer that accepts
 --   tells: what calls tell on a sheet of two pixels, with a longest and a total
 --   All-hold: each pair is of two equal lists
+--   pair, one-pixel: the records of `++=++` beside `=++++`, and of one empty pixel
 --   crossed: a table of two groups on W, with vertices, that cross
 --   Examples: worked examples
 use mathlib.Core.Path.{_≡_}
@@ -90,6 +91,13 @@ All-hold (e ∷ es) = (e .0 ≡ e .1) × All-hold es
 abbrev pub crossed : List Crossing
 crossed = crossing 0 1 true ∷ crossing 0 2 true ∷ crossing 0 1 true ∷ crossing 0 2 true ∷ []
 
+-- the record of `++=++` and `=++++`, and that of one empty pixel
+abbrev pub pair : List ℕ
+pair = 1 ∷ 2 ∷ 1 ∷ 0 ∷ 1 ∷ 0 ∷ 0 ∷ 0 ∷ 2 ∷ 0 ∷ 128 ∷ 64 ∷ 0 ∷ []
+
+abbrev pub one-pixel : List ℕ
+one-pixel = 1 ∷ 1 ∷ 1 ∷ 0 ∷ 0 ∷ []
+
 abbrev pub Examples : Type 0
 Examples =
     All-hold (
@@ -99,4 +107,8 @@ Examples =
     ∷ (tells 5 128 (put 0 (codes "==++++") ∷ put 0 (codes "=++++") ∷ []), 5 ∷ 0 ∷ [])
     ∷ (tells 5 8 (put 0 (codes "[Y]++++") ∷ put 0 (codes "==++++") ∷ put 0 (codes "=++++") ∷ put 0 (codes "++++") ∷ []), 4 ∷ 5 ∷ 6 ∷ 0 ∷ [])
     ∷ (tells 64 9 (put 0 (codes "=++++") ∷ put 1 (codes "=++++") ∷ put 0 (codes "=++++") ∷ clear 0 ∷ put 1 (codes "=++++") ∷ []), 0 ∷ 6 ∷ 0 ∷ 0 ∷ 0 ∷ [])
+    ∷ (tells 64 128 (load pair ∷ load one-pixel ∷ load [] ∷ []), 0 ∷ 1 ∷ 15 ∷ [])
+    ∷ (tells 4 128 (load pair ∷ []), 5 ∷ [])
+    ∷ (tells 64 9 (load pair ∷ []), 6 ∷ [])
+    ∷ (tells 64 10 (put 0 (codes "==++++") ∷ load pair ∷ put 0 (codes "==++++") ∷ []), 0 ∷ 0 ∷ 6 ∷ [])
     ∷ [])
