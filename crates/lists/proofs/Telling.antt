@@ -36,7 +36,8 @@ use Rattle.model.proofs.Inside.{drawing-in, dart-parts}
 use Rattle.model.proofs.Listing.{in-darts, darts-are, circles-lawful}
 use Rattle.model.proofs.Passing.{next-undone, over-given}
 use Rattle.lists.specs.Statements.{lefts, Chained, Covered, Fits-item, Fits-line, Same-map, Lists-tell}
-use Rattle.lists.proofs.Covering.{check-free, check-quiet, lists-cover}
+use Rattle.model.proofs.Checking.{check-free, check-quiet}
+use Rattle.lists.proofs.Covering.{lists-cover}
 use Rattle.lists.proofs.Texts.{texts-tell}
 use Rattle.lists.proofs.Maps.{drawings-same}
 

@@ -2,3 +2,4 @@ pub mod Pixels
 pub mod Inside
 pub mod Passing
 pub mod Listing
+pub mod Checking

@@ -1,0 +1,4 @@
+pub mod Halves
+pub mod Crossings
+pub mod Banks
+pub mod Streets
