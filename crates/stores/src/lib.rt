@@ -13,6 +13,13 @@ pub use bytes::copy_word;
 pub use bytes::front_len;
 pub use bytes::put_word;
 
+// An opening that was refused hands the memory back.
+#[derive(Drop)]
+pub struct Unopened {
+    pub refusal: Refusal,
+    pub memory: Vec<u8>,
+}
+
 // A size and one lawful word for each pixel. A question alters nothing.
 pub trait Source {
     // the size and the words
