@@ -3,6 +3,7 @@
 --   Put, put-slot: what the slots tell after one was written
 --   slot-lent, stored: slots seen through the loans of the memory
 --   blanked, put-lawful: the memory after an opening, lawful words after a write
+--   over-slot: a word that does not fit is longer than its slot
 --   judged-given: what is judged to be a word is one
 --   slots-keep, never-full: the words of slots keep to the slot and to all slots together
 --   blank-lawful, blank-words: slots of zeros hold the empty word everywhere
@@ -25,7 +26,7 @@ use Rattle.std.proofs.shelf.Elements.{all-from-getD}
 use Rattle.std.proofs.shelf.Sums.{sumBy-le}
 use Rattle.std.proofs.shelf.Lists.{take-at, length-take, getD-set-same, getD-set-other, getD-replicate, ext-getD, length-set, take-replicate, drop-replicate, take-append-le, drop-append-le, length-take-le, length-drop}
 use Rattle.std.proofs.shelf.Parts.{between-is, take-putMid-below, drop-putMid, between-putMid}
-use Rattle.std.proofs.shelf.Tests.{cases-eq, cases-order, cond-false, le-ltb}
+use Rattle.std.proofs.shelf.Tests.{cases-eq, cases-lt, cases-order, cond-false, le-ltb, false≢true}
 use Rattle.symbols.specs.declared.symbols.Symbol.{Symbol}
 use Rattle.symbols.specs.Symbols.{code}
 use Rattle.symbols.specs.declared.refusals.Refusal.{Refusal}
@@ -234,3 +235,6 @@ put-lawful n k p w old new t law all i l =
       | inl e ↦ ap (λ (x : ℕ). lawful (slot-word n new x)) e ∙ ap lawful (t .here) ∙ law
       | inr d ↦ ap lawful (t .others i d) ∙ all i l
     ]
+
+pub over-slot : (n m : ℕ) → (n ≤ m → false ≡ true) → m < n
+over-slot n m f = elim (cases-lt m n) [ inl l ↦ l | inr h ↦ absurd (false≢true (f h)) ]

@@ -38,6 +38,20 @@ fn pixels_in(width: u16, height: u16) -> usize
     usize::from(width) * usize::from(height)
 }
 
+// Whether there is such a pixel.
+fn has_pixel(width: u16, height: u16, p: usize) -> bool
+    ensures { λ r. ⌜ Decides r (p < width * height) ⌝ }
+{
+    p < pixels_in(width, height)
+}
+
+// Whether a word is no longer than a slot.
+fn fits_slot(slot: usize, n: usize) -> bool
+    ensures { λ r. ⌜ Decides r (n ≤ slot) ⌝ }
+{
+    n <= slot
+}
+
 // Whether sides, slot and memory suit a store.
 fn suits(room: usize, width: u16, height: u16, slot: usize) -> bool
     ensures { λ r. ⌜ Decides r (Opens-slots room width height slot) ⌝ }
@@ -120,7 +134,7 @@ pub impl Source for SlotStore as SlotSource {
 
     fn word(&self, pixel: u32, out: &mut [Symbol]) -> Result<usize, Refusal> {
         let p = pixel as usize;
-        if p >= pixels_in(self.width, self.height) {
+        if !has_pixel(self.width, self.height, p) {
             return Err(Refusal::NoPixel);
         }
         let at = p * self.slot;
@@ -143,13 +157,13 @@ pub impl Store for SlotStore as SlotWrites {
 
     fn write(&mut self, pixel: u32, word: &[Symbol]) -> Result<(), Refusal> {
         let p = pixel as usize;
-        if p >= pixels_in(self.width, self.height) {
+        if !has_pixel(self.width, self.height, p) {
             return Err(Refusal::NoPixel);
         }
         if let Err(refusal) = Word::from_symbols(word) {
             return Err(refusal);
         }
-        if word.len() > self.slot {
+        if !fits_slot(self.slot, word.len()) {
             return Err(Refusal::OverLongest);
         }
         let at = p * self.slot;

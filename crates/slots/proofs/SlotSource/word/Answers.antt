@@ -1,4 +1,4 @@
-use mathlib.Core.Path.{_≡_, sym, ap, _∙_}
+use mathlib.Core.Path.{_≡_, refl, sym, ap, _∙_}
 use mathlib.Core.List.{List}
 use Prim.Native.Nat.{ℕ, _+_, _*_, _≤_, _<_}
 use native.Mathlib.Omega.{arith}
@@ -18,7 +18,7 @@ pub part-copy-word-end : need.part-copy-word-end
 part-copy-word-end c =
     let s = c .args .self .now in
     let h : c .args .pixel * s .slot + s .slot ≤ length (c .deref .result .now) =
-    omega (arith, row-fits (c .args .pixel) (s .width * s .height) (s .slot) (omega (arith, c .pixels-in .ensures)), s .sound .2, c .deref .ensures .len, s .memory .ok .0) in
+    omega (arith, row-fits (c .args .pixel) (s .width * s .height) (s .slot) (c .if-not-has-pixel .ensures tt .0 refl), s .sound .2, c .deref .ensures .len, s .memory .ok .0) in
     search needs
 
 pub returns : need.returns
@@ -27,7 +27,7 @@ returns c =
     let p : ℕ = c .args .pixel in
     let k : ℕ = s .width * s .height in
     let out = c .args .out .now in
-    let b : p < k = omega (arith, c .pixels-in .ensures) in
+    let b : p < k = c .if-not-has-pixel .ensures tt .0 refl in
     let e = slot-lent (s .slot) p (s .memory .items) (c .deref .result .now) (c .deref .ensures .value) ∙ sym (word-there (s .slot) k (s .memory .items) p b) in
     record {
       answer = c .copy-word .ensures .answer ∙ ap (λ (w : List Symbol). fill-answer w out) e ∙ sym (cond-true (ltb p k) _ (Err NoPixel) (lt-ltb p k b));
