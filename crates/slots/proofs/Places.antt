@@ -6,6 +6,7 @@
 --   over-slot: a word that does not fit is longer than its slot
 --   judged-given: what is judged to be a word is one
 --   slots-keep, never-full: the words of slots keep to the slot and to all slots together
+--   never-refused: so no write is refused for want of room in all slots
 --   blank-lawful, blank-words: slots of zeros hold the empty word everywhere
 use mathlib.Core.Path.{_≡_, refl, sym, ap, subst, _∙_}
 use mathlib.Core.Logic.{_≢_, inl, inr}
@@ -30,17 +31,18 @@ use Rattle.std.proofs.shelf.Tests.{cases-eq, cases-lt, cases-order, cond-false,
 use Rattle.symbols.specs.declared.symbols.Symbol.{Symbol}
 use Rattle.symbols.specs.Symbols.{code}
 use Rattle.symbols.specs.declared.refusals.Refusal.{Refusal}
-use Rattle.symbols.specs.declared.refusals.Refusal.the-variants.{NoWord, Unlawful}
+use Rattle.symbols.specs.declared.refusals.Refusal.the-variants.{NoPixel, NoWord, Unlawful, OverLongest, OverTotal}
 use Rattle.symbols.specs.Refusals.{filled}
 use Rattle.rules.specs.Words.{Drawing, lawful, Lawful, shaped, drawing-of, drawn, judged}
 use Rattle.codec.specs.Words.{left}
 use Rattle.codec.specs.Loops as corner
-use Rattle.plain.specs.Plain.{Keeps, symbols-in, symbols-of}
+use Rattle.plain.specs.Plain.{Answer, Keeps, symbols-in, symbols-of, answer, write}
+use Rattle.plain.specs.Statements.{told}
 use Rattle.stores.specs.Sources.{Told, empty-word, plain-told}
 use Rattle.stores.specs.Bytes.{decode, decoded, front-word, encoded}
 use Rattle.stores.proofs.Fronts.{front-encoded}
-use Rattle.stores.proofs.Writes.{counted, all-set, drawn-short, keeps-told}
-use Rattle.slots.specs.Slots.{slot-word, slot-words, slots-told, Sides, Slots}
+use Rattle.stores.proofs.Writes.{counted, write-no-pixel, write-bad, write-long, write-fine, all-set, drawn-short, keeps-told}
+use Rattle.slots.specs.Slots.{slot-word, slot-words, slots-told, Sides, Slots, Never-full}
 use Rattle.slots.specs.Laws.{word-there, length-words, slots-lawful}
 
 suc-mul : (x y : ℕ) → suc x * y ≡ x * y + y
@@ -221,6 +223,31 @@ never-full w h n bs p v d s law short =
     let a = all-set (λ (x : Drawing). symbols-in x ≤ n) ds p (drawn v) (k .to-longest) (omega (arith, counted v law)) in
     let long : length (set ds p (drawn v)) ≡ w * h = length-set ds p (drawn v) ∙ length-map (slot-words n (w * h) bs) drawn ∙ length-words n (w * h) bs in
     subst (λ (x : ℕ). symbols-of (set ds p (drawn v)) ≤ x * n) long (sumBy-le symbols-in n (set ds p (drawn v)) a)
+
+-- an answer that is another is not this one
+other : (r a : Answer) → r ≡ a → told r ≢ 6 → a ≢ Err OverTotal
+other r a e d f = d (ap told (e ∙ f))
+
+pub never-refused : Never-full
+never-refused w h n bs p v d s =
+    let t = slots-told w h n bs in
+    elim (cases-lt p (w * h)) [
+      | inl b ↦ by b (shaped v) (isSome (drawing-of v)) refl refl
+      | inr b ↦ other _ _ (write-no-pixel t n (w * h * n) p v b .answer-is) (λ e. absurd (omega arith))
+    ]
+  where
+    fits : p < w * h → Ok v ≡ judged v → Lawful v → answer (plain-told (slots-told w h n bs) n (w * h * n)) (write p v) ≢ Err OverTotal
+    fits b j law =
+        let t = slots-told w h n bs in
+        elim (cases-lt n (length v)) [
+          | inl l ↦ other _ _ (write-long t n (w * h * n) p v b j law l .answer-is) (λ e. absurd (omega arith))
+          | inr l ↦ other _ _ (write-fine t n (w * h * n) p v b j law l (never-full w h n bs p v d s law l) _ refl .answer-is) (λ e. absurd (omega arith))
+        ]
+
+    by : p < w * h → (a c : Bool) → shaped v ≡ a → isSome (drawing-of v) ≡ c → answer (plain-told (slots-told w h n bs) n (w * h * n)) (write p v) ≢ Err OverTotal
+    by b true true f g = fits b (sym (rw (f, g))) (rw (f, g))
+    by b true false f g = other _ _ (write-bad (slots-told w h n bs) n (w * h * n) p v Unlawful b (sym (rw (f, g))) .answer-is) (λ e. absurd (omega arith))
+    by b false c f g = other _ _ (write-bad (slots-told w h n bs) n (w * h * n) p v NoWord b (sym (rw f)) .answer-is) (λ e. absurd (omega arith))
 
 -- the memory after its front was made zeros
 pub blanked : (items lent last : List ℕ) (len m k n : ℕ) → len ≡ length items → length last ≡ len → last ≡ replicate (m * n) 0 ++ drop (m * n) lent → m ≡ k

@@ -9,7 +9,7 @@ ghost use Rattle.std.specs.Orderings.{Decides};
 ghost use Rattle.std.specs.Results.{Cases};
 ghost use Rattle.symbols.specs.declared.refusals.Refusal.the-variants.{Opening};
 ghost use Rattle.stores.specs.Sources.{fresh};
-ghost use Rattle.slots.specs.Slots.{slots-told, Sides, Slots, Opens-slots};
+ghost use Rattle.slots.specs.Slots.{slots-told, Sides, Slots, Opens-slots, Never-full};
 ghost use Rattle.slots.specs.Laws.{slots-lawful};
 use stores::Source;
 use stores::Store;
@@ -172,3 +172,8 @@ pub impl Store for SlotStore as SlotWrites {
         Ok(())
     }
 }
+
+// Slots have room for every word that fits one: no write is refused for want of room in all of them together.
+pub fn slots_never_full()
+    ensures { λ _. ⌜ Never-full ⌝ }
+{}
