@@ -1,0 +1,34 @@
+use mathlib.Core.Path.{refl, _∙_}
+use Prim.Native.Nat.{_*_}
+use native.Mathlib.Omega.{arith}
+use lib.ListN.{drop}
+use Rattle.plain.specs.Plain.{Opens}
+use Rattle.strips.proofs.Cuts.{blank-cuts}
+use Rattle.strips.proofs.Steps.{refilled}
+use Rattle.strips.proofs.StripStore.open.Needs as need
+
+pub ghost-result : need.ghost-result
+ghost-result c =
+    let m = c .args .memory in
+    let n = c .args .width * c .args .height in
+    let o : Opens (c .args .width) (c .args .height) 64 (c .len .result) = c .if-not-opens .ensures tt .0 refl in
+    let b = blank-cuts n _ (drop (4 * n) (c .deref-mut .result .now)) (refilled (m .len) (m .items) (c .blank-out .last .memory) (omega (arith, c .deref-mut .ensures .len, c .blank-out .kept)) ∙ c .blank-out .ensures) in
+    ((o .some-width, o .most-width, o .some-height, o .most-height, omega arith), (b .each, tt))
+
+pub returns : need.returns
+returns c =
+    let m = c .args .memory in
+    let n = c .args .width * c .args .height in
+    let o : Opens (c .args .width) (c .args .height) 64 (c .len .result) = c .if-not-opens .ensures tt .0 refl in
+    let b = blank-cuts n _ (drop (4 * n) (c .deref-mut .result .now)) (refilled (m .len) (m .items) (c .blank-out .last .memory) (omega (arith, c .deref-mut .ensures .len, c .blank-out .kept)) ∙ c .blank-out .ensures) in (
+      record {
+        some-width = o .some-width;
+        most-width = o .most-width;
+        some-height = o .some-height;
+        most-height = o .most-height;
+        least-longest = o .least-longest;
+        least-total = omega arith;
+      },
+      λ k. record { width = c .args .width; height = c .args .height; words = b .words k },
+      refl,
+    )
