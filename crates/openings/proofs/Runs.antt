@@ -2,9 +2,11 @@
 --   run-more, run-all: one write more, and no write left
 --   replayed: a store that was opened and ran so
 --   slots-within, slots-without: slots that can be opened have limits, and others have none
+--   strip-within, strip-without: the same of a strip
 --   either: what holds in each case of a result, told otherwise
 use mathlib.Core.Path.{_≡_, refl, sym, ap, subst, _∙_}
 use mathlib.Core.Logic.{inl, inr}
+use native.Mathlib.Omega.{arith}
 use mathlib.Core.Bool.{Bool, true, cond, _&&_}
 use mathlib.Core.List.{List, [], _∷_, map}
 use Prim.Native.Nat.{ℕ, zero, suc, _+_, _*_, _≤_, _<_}
@@ -19,12 +21,12 @@ use Rattle.std.proofs.shelf.Lists.{at-drop-more, at-drop-all, getD-map}
 use Rattle.std.proofs.shelf.Tests.{leb-true, le-leb, and-parts, and-from, cases-bool, cond-true, cond-false}
 use Rattle.symbols.specs.declared.symbols.Symbol.{Symbol}
 use Rattle.rules.specs.Words.{Drawing, drawn}
-use Rattle.plain.specs.Plain.{Plain, Call, opened, step, run}
+use Rattle.plain.specs.Plain.{Plain, Call, Opens, opened, step, run}
 use Rattle.plain.proofs.Runs.{last-accepted-there}
 use Rattle.stores.specs.Sources.{Told, fresh, empty-word, plain-told}
 use Rattle.slots.specs.Slots.{Sides, Opens-slots}
 use Rattle.openings.specs.declared.Write.{Write}
-use Rattle.openings.specs.Limits.{Limits, opened-within, side, slot-limits}
+use Rattle.openings.specs.Limits.{Limits, opened-within, side, slot-limits, strip-limits}
 use Rattle.openings.specs.Replays.{call-of, script, Opened-within, Replayed}
 
 pub run-more : (p q : Plain) (ws : List Write) (i : ℕ) (d : Write) → i < length ws → q ≡ step p (call-of (getD ws i d)) → run q (script (drop (i + 1) ws)) ≡ run p (script (drop i ws))
@@ -109,6 +111,48 @@ module _ (room w h n : ℕ) where
     ap (λ (x : ℕ). plain-told t x (t .width * t .height * x)) e
         ∙ ap (λ (x : Told). plain-told x n (x .width * x .height * n)) f
         ∙ ap (λ (x : List Drawing). record { width = w; height = h; longest = n; total = w * h * n; drawings = x }) (drawn-fresh (w * h)),
+  )
+
+module _ (room w h : ℕ) where
+  abbrev roomy-strip : Bool
+  roomy-strip = leb (4 * (w * h)) room
+
+  abbrev high-strip : Bool
+  high-strip = side h && roomy-strip
+
+  abbrev whole-strip : Bool
+  whole-strip = side w && high-strip
+
+  abbrev strip : Limits
+  strip = record { width = w; height = h; longest = 64; total = room }
+
+  strip-opens : whole-strip ≡ true → Opens w h 64 room
+  strip-opens e =
+      let a = and-parts (side w) high-strip e in
+      let b = and-parts (side h) roomy-strip (a .1) in
+      let x = side-parts w (a .0) in
+      let y = side-parts h (b .0) in
+      record { some-width = x .0; most-width = x .1; some-height = y .0; most-height = y .1; least-longest = omega arith; least-total = leb-true (4 * (w * h)) room (b .1) }
+
+  strip-holds : Opens w h 64 room → whole-strip ≡ true
+  strip-holds o =
+      and-from (side w) high-strip (side-from w (o .some-width) (o .most-width))
+      (and-from (side h) roomy-strip (side-from h (o .some-height) (o .most-height)) (le-leb (4 * (w * h)) room (o .least-total)))
+
+  pub strip-without : (Opens w h 64 room → ⊥) → strip-limits room w h ≡ None
+  strip-without f =
+      elim (cases-bool whole-strip) [
+        | inl e ↦ absurd (f (strip-opens e))
+        | inr e ↦ cond-false whole-strip (Some strip) None e
+      ]
+
+  pub strip-within : (t : Told) (m : ℕ) → Opens w h 64 room → t ≡ fresh w h → m ≡ room → Opened-within (strip-limits room w h) (plain-told t 64 m)
+  strip-within t m o f e = (
+    strip,
+    cond-true whole-strip (Some strip) None (strip-holds o),
+    ap (λ (x : ℕ). plain-told t 64 x) e
+        ∙ ap (λ (x : Told). plain-told x 64 room) f
+        ∙ ap (λ (x : List Drawing). record { width = w; height = h; longest = 64; total = room; drawings = x }) (drawn-fresh (w * h)),
   )
 
 pub either : {A E : Type 0} (P P' : A → Type 0) (Q Q' : E → Type 0) → ((x : A) → P x → P' x) → ((x : E) → Q x → Q' x) → (r : Result A E) → Cases r P Q → Cases r P' Q'

@@ -2,7 +2,7 @@
 --   Limits: a size, the most symbols that one word and that all words may have
 --   opened-within: the plain sheet of an opening with these limits
 --   side: a side is 1 to 64
---   slot-limits: the limits of slots over so much memory, if they can be opened
+--   slot-limits, strip-limits: the limits of slots and of a strip over so much memory, if they can be opened
 use mathlib.Core.Bool.{Bool, cond, _&&_}
 use Prim.Native.Nat.{ℕ, _*_}
 use lib.Dec.{leb}
@@ -26,3 +26,7 @@ abbrev pub slot-limits : ℕ → ℕ → ℕ → ℕ → Option Limits
 slot-limits room w h slot =
     cond (side w && (side h && (leb 4 slot && (leb slot 64 && leb (w * h * slot) room))))
     (Some (record { width = w; height = h; longest = slot; total = w * h * slot })) None
+
+abbrev pub strip-limits : ℕ → ℕ → ℕ → Option Limits
+strip-limits room w h =
+    cond (side w && (side h && leb (4 * (w * h)) room)) (Some (record { width = w; height = h; longest = 64; total = room })) None

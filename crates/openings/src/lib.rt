@@ -10,7 +10,7 @@ ghost use Rattle.std.specs.Results.{Cases};
 ghost use Rattle.symbols.specs.declared.refusals.Refusal.the-variants.{Opening};
 ghost use Rattle.plain.specs.Plain.{run, step};
 ghost use Rattle.stores.specs.Sources.{plain-told};
-ghost use Rattle.openings.specs.Limits.{Limits, slot-limits};
+ghost use Rattle.openings.specs.Limits.{Limits, slot-limits, strip-limits};
 ghost use Rattle.openings.specs.Replays.{call-of, script, Opened-within, Replayed};
 use slots::SlotSource;
 use slots::SlotStore;
@@ -18,6 +18,9 @@ use slots::SlotWrites;
 use stores::Source;
 use stores::Store;
 use stores::Unopened;
+use strips::StripSource;
+use strips::StripStore;
+use strips::StripWrites;
 use symbols::Refusal;
 use symbols::Symbol;
 
@@ -62,6 +65,31 @@ pub impl Opens for SlotOpening as SlotOpens {
             slot,
         } = self;
         SlotStore::open(memory, width, height, slot)
+    }
+}
+
+// What a strip store is opened with.
+#[derive(Drop)]
+pub struct StripOpening {
+    pub memory: Vec<u8>,
+    pub width: u16,
+    pub height: u16,
+}
+
+pub impl Opens for StripOpening as StripOpens {
+    type Opened = StripStore;
+
+    ghost limits = { λ o. strip-limits (vec-len (o .memory)) (o .width) (o .height) };
+
+    ghost memory = { λ o. vec-items (o .memory) };
+
+    fn open(self) -> Result<StripStore, Unopened> {
+        let StripOpening {
+            memory,
+            width,
+            height,
+        } = self;
+        StripStore::open(memory, width, height)
     }
 }
 
