@@ -1,7 +1,8 @@
 // Words as bytes, one after another.
 ghost use mathlib.Core.Path.{_≡_};
-ghost use Prim.Native.Nat.{ℕ, _≤_};
+ghost use Prim.Native.Nat.{ℕ, _<_, _≤_};
 ghost use lib.ListN.{length};
+ghost use Rattle.std.specs.Orderings.{When};
 ghost use Rattle.symbols.specs.Refusals.{fill-answer, filled};
 ghost use Rattle.stores.specs.Bytes.{decode, front-word, encoded};
 use symbols::Refusal;
@@ -35,6 +36,13 @@ pub fn front_len(bytes: &[u8]) -> usize
     bytes.len()
 }
 
+// Whether so much memory is too short for so many.
+fn lacks_room(room: usize, n: usize) -> bool
+    ensures { λ r. ⌜ When r (room < n) (n ≤ room) ⌝ }
+{
+    n > room
+}
+
 // Copies the word at the front of bytes to the front of memory and tells its length. Where the memory is shorter, nothing
 // is written.
 pub fn copy_word(bytes: &[u8], out: &mut [Symbol]) -> Result<usize, Refusal>
@@ -42,7 +50,7 @@ pub fn copy_word(bytes: &[u8], out: &mut [Symbol]) -> Result<usize, Refusal>
     ensures memory { λ _. ⌜ now (out .exit) ≡ filled (front-word (now (bytes .entry))) (now (out .entry)) ⌝ }
 {
     let n = front_len(bytes);
-    if n > out.len() {
+    if lacks_room(out.len(), n) {
         return Err(Refusal::Short);
     }
     for i in 0..n {
@@ -57,7 +65,7 @@ pub fn put_word(word: &[Symbol], bytes: &mut [u8]) -> Result<usize, Refusal>
     ensures memory { λ _. ⌜ now (bytes .exit) ≡ filled (encoded (now (word .entry))) (now (bytes .entry)) ⌝ }
 {
     let n = word.len();
-    if n > bytes.len() {
+    if lacks_room(bytes.len(), n) {
         return Err(Refusal::Short);
     }
     for i in 0..n {

@@ -10,9 +10,9 @@ use Rattle.stores.specs.Bytes.{decode, decoded, front-word}
 use Rattle.stores.proofs.Fronts.{put-more, up-to-take, fills-short, fills-well}
 use Rattle.stores.proofs.bytes.copy_word.Needs as need
 
-pub returns-then-n-out : need.returns-then-n-out
-returns-then-n-out c =
-    let f = fills-short (front-word (c .args .bytes .now)) (c .args .out .now) (omega (arith, c .front-len-n .ensures .is)) in
+pub returns-then-lacks-room : need.returns-then-lacks-room
+returns-then-lacks-room c =
+    let f = fills-short (front-word (c .args .bytes .now)) (c .args .out .now) (omega (arith, c .front-len-n .ensures .is, c .if-lacks-room .ensures tt)) in
     record { answer = f .told; memory = f .holds }
 
 pub loop-i-again : need.loop-i-again
@@ -28,6 +28,6 @@ returns c =
     let n : ℕ = c .front-len-n .result in
     let i : c .loop-i .i ≡ n = omega arith in
     let w : take n (decoded bs) ≡ front-word bs = ap (λ (x : ℕ). take x (decoded bs)) (c .front-len-n .ensures .is) ∙ sym (up-to-take 4 (decoded bs)) in
-    let f = fills-well (front-word bs) (c .args .out .now) (c .loop-i .out) n (c .front-len-n .ensures .is) (omega arith)
+    let f = fills-well (front-word bs) (c .args .out .now) (c .loop-i .out) n (c .front-len-n .ensures .is) (omega (arith, c .if-lacks-room .ensures tt))
     (c .loop-i .inv ∙ ap (λ (x : ℕ). take x (decoded bs) ++ drop x (c .args .out .now)) i ∙ ap (λ (x : List Symbol). x ++ drop n (c .args .out .now)) w) in
     record { answer = f .told; memory = f .holds }

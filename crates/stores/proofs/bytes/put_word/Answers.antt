@@ -10,9 +10,9 @@ use Rattle.stores.specs.Bytes.{encoded}
 use Rattle.stores.proofs.Fronts.{put-more, fills-short, fills-well}
 use Rattle.stores.proofs.bytes.put_word.Needs as need
 
-pub returns-then-n-bytes : need.returns-then-n-bytes
-returns-then-n-bytes c =
-    let f = fills-short (encoded (c .args .word .now)) (c .args .bytes .now) (omega (arith, length-map (c .args .word .now) code)) in
+pub returns-then-lacks-room : need.returns-then-lacks-room
+returns-then-lacks-room c =
+    let f = fills-short (encoded (c .args .word .now)) (c .args .bytes .now) (omega (arith, length-map (c .args .word .now) code, c .if-lacks-room .ensures tt)) in
     record { answer = f .told; memory = f .holds }
 
 pub loop-i-again : need.loop-i-again
@@ -28,6 +28,6 @@ returns c =
     let n : ℕ = length w in
     let i : c .loop-i .i ≡ n = omega arith in
     let m = length-map w code in
-    let f = fills-well (encoded w) (c .args .bytes .now) (c .loop-i .bytes) n (sym m) (omega arith)
+    let f = fills-well (encoded w) (c .args .bytes .now) (c .loop-i .bytes) n (sym m) (omega (arith, c .if-lacks-room .ensures tt))
     (c .loop-i .inv ∙ ap (λ (x : ℕ). take x (encoded w) ++ drop x (c .args .bytes .now)) i ∙ ap (λ (x : List ℕ). x ++ drop n (c .args .bytes .now)) (take-all n (encoded w) (omega arith))) in
     record { answer = f .told; memory = f .holds }
