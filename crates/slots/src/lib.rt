@@ -1,9 +1,6 @@
 // The slot store: each pixel has a slot of bytes for its word.
 ghost use mathlib.Core.Path.{_≡_};
-ghost use mathlib.Core.List.{_++_};
-ghost use Prim.Native.Nat.{ℕ, _+_, _*_, _≤_, _<_};
-ghost use lib.ListN.{length, drop, replicate};
-ghost use denote.Ref.{now};
+ghost use Prim.Native.Nat.{_*_, _≤_, _<_};
 ghost use Rattle.std.specs.Of.Vec.{vec-len, vec-items};
 ghost use Rattle.std.specs.Orderings.{Decides};
 ghost use Rattle.std.specs.Results.{Cases};
@@ -14,6 +11,7 @@ ghost use Rattle.slots.specs.Laws.{slots-lawful};
 use stores::Source;
 use stores::Store;
 use stores::Unopened;
+use stores::blank_out;
 use stores::copy_word;
 use stores::put_word;
 use symbols::Refusal;
@@ -63,16 +61,6 @@ fn suits(room: usize, width: u16, height: u16, slot: usize) -> bool
         && 4 <= slot
         && slot <= 64
         && pixels_in(width, height) * slot <= room
-}
-
-// Makes the first n bytes zeros.
-fn blank_out(memory: &mut [u8], n: usize)
-    requires { ⌜ n ≤ length (now memory) ⌝ }
-    ensures { λ _. ⌜ now (memory .exit) ≡ replicate n 0 ++ drop n (now (memory .entry)) ⌝ }
-{
-    for i in 0..n {
-        memory[i] = 0;
-    }
 }
 
 impl SlotStore {

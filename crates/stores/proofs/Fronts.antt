@@ -5,6 +5,7 @@
 --   put-more: one turn of a loop that writes to the front of memory
 --   decode-code: the symbol of a code
 --   Fills, fills-short, fills-well: memory that an answer fills, or is too long for
+--   blank-front: memory whose front was made zeros
 --   front-encoded: the word at the front of a lawful word's bytes is that word, whatever follows
 use mathlib.Core.Path.{_≡_, refl, sym, ap, subst, _∙_}
 use mathlib.Core.Logic.{_≢_, inl, inr}
@@ -14,7 +15,7 @@ use Prim.Native.Nat.{ℕ, zero, suc, _+_, _-_, _≤_, _<_}
 use native.Mathlib.Omega.{arith}
 use native.Mathlib.Numerals.{add-one}
 use lib.Dec.{eqb}
-use lib.ListN.{length, getD, set, take, drop, length-map}
+use lib.ListN.{length, getD, set, take, drop, replicate, length-map, length-replicate}
 use Rattle.std.proofs.shelf.Lists.{at-drop-more, at-drop-all, append-assoc, map-append, drop-map, drop-more, set-at, length-take-le, take-more}
 use Rattle.std.specs.declared.result.Result.{Result}
 use Rattle.std.specs.declared.result.Result.the-variants.{Ok, Err}
@@ -141,3 +142,8 @@ pub fills-well : {A : Type 0} (answer memory now : List A) (n : ℕ) → n ≡ l
 fills-well answer memory now n q h v =
     let e = le-ltb (length memory) (length answer) (omega arith) in
     record { told = rw e (ap Ok q); holds = rw e (v ∙ ap (λ (x : ℕ). answer ++ drop x memory) q) }
+
+pub blank-front : (n : ℕ) (memory : List ℕ) → n ≤ length memory → filled (replicate n 0) memory ≡ replicate n 0 ++ drop n memory
+blank-front n memory h =
+    let l : length (replicate {A = ℕ} n 0) ≡ n = length-replicate n 0 in
+    sym (fills-well (replicate n 0) memory (replicate n 0 ++ drop n memory) n (sym l) h refl .holds)

@@ -1,7 +1,7 @@
 // Words as bytes, one after another.
 ghost use mathlib.Core.Path.{_≡_};
 ghost use Prim.Native.Nat.{ℕ, _<_, _≤_};
-ghost use lib.ListN.{length};
+ghost use lib.ListN.{length, replicate};
 ghost use Rattle.std.specs.Orderings.{When};
 ghost use Rattle.symbols.specs.Refusals.{fill-answer, filled};
 ghost use Rattle.stores.specs.Bytes.{decode, front-word, encoded};
@@ -72,4 +72,16 @@ pub fn put_word(word: &[Symbol], bytes: &mut [u8]) -> Result<usize, Refusal>
         bytes[i] = word[i].to_code();
     }
     Ok(n)
+}
+
+// Makes the first n bytes corners. Where there are fewer bytes, nothing is written.
+pub fn blank_out(bytes: &mut [u8], n: usize)
+    ensures { λ _. ⌜ now (bytes .exit) ≡ filled (replicate n 0) (now (bytes .entry)) ⌝ }
+{
+    if lacks_room(bytes.len(), n) {
+        return;
+    }
+    for i in 0..n {
+        bytes[i] = 0;
+    }
 }

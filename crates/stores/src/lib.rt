@@ -9,6 +9,7 @@ use symbols::Symbol;
 
 mod bytes;
 
+pub use bytes::blank_out;
 pub use bytes::copy_word;
 pub use bytes::front_len;
 pub use bytes::put_word;

@@ -1,6 +1,5 @@
 -- Steps of the strip store, seen through loans of its memory.
 --   refilled: what a Vec holds after its slice was lent
---   blank-more: one turn of the loop that writes corners
 --   replaced-by: a shift and a word written to the front
 --   found: where a question finds its word
 --   order, stands: where a write finds its word
@@ -10,10 +9,10 @@ use mathlib.Core.Path.{_≡_, sym, ap, subst, _∙_}
 use mathlib.Core.List.{List, [], _∷_, _++_, append-assoc}
 use Prim.Native.Nat.{ℕ, _+_, _-_, _<_, _≤_}
 use native.Mathlib.Omega.{arith}
-use lib.ListN.{length, getD, take, drop, replicate, set, length-drop, length-append, length-map}
+use lib.ListN.{length, getD, take, drop, length-drop, length-append, length-map}
 use lib.Seq.{paste}
 use borrow.Rule.Slice.PartMut.{putMid, postOf}
-use Rattle.std.proofs.shelf.Lists.{take-at, take-rest, length-take-le, drop-at, drop-more, set-at, replicate-more, length-replicate, drop-all, append-nil}
+use Rattle.std.proofs.shelf.Lists.{take-at, take-rest, length-take-le, drop-at, drop-all, append-nil}
 use Rattle.std.proofs.shelf.Tests.{le-ltb, cond-false}
 use Rattle.std.specs.declared.result.Result.the-variants.{Ok}
 use Rattle.symbols.specs.declared.symbols.Symbol.{Symbol}
@@ -27,15 +26,6 @@ use Rattle.strips.proofs.Cuts.{span, strip-at, Place, place-of, word-within, P
 
 pub refilled : (len : ℕ) (items ws : List ℕ) → length ws ≡ len → take len (ws ++ drop (length ws) items) ≡ ws
 refilled len items ws e = take-at ws (drop (length ws) items) len e
-
-pub blank-more : (items now : List ℕ) (i : ℕ) → i < length items → now ≡ replicate i 0 ++ drop i items → set now i 0 ≡ replicate (i + 1) 0 ++ drop (i + 1) items
-blank-more items now i h e =
-    let z : ℕ = 0 in
-    let size : length (replicate i z) ≡ i = length-replicate i z in
-    ap (λ x. set x i z) (e ∙ ap (λ x. replicate i z ++ x) (drop-more items i z h))
-    ∙ set-at (replicate i z) (getD items i z) (drop (i + 1) items) z i size
-    ∙ sym (append-assoc (replicate i z) (z ∷ []) (drop (i + 1) items))
-    ∙ ap (λ x. x ++ drop (i + 1) items) (replicate-more i z)
 
 pub replaced-by : (bs shifted new w : List ℕ) (k old tail : ℕ) → length w ≡ k → old + tail ≤ length bs → k + tail ≤ length bs → shifted ≡ paste bs k (drop old bs) tail → new ≡ filled w shifted → new ≡ replaced bs old tail w
 replaced-by bs shifted new w k old tail len before after moves fills =

@@ -1,9 +1,8 @@
 // The strip store: words one behind the other, each symbol one byte. A word is found by counting corners; when its length
 // changes, the words behind it move.
 ghost use mathlib.Core.Path.{_≡_};
-ghost use mathlib.Core.List.{_++_};
 ghost use Prim.Native.Nat.{_+_, _*_, _<_, _≤_};
-ghost use lib.ListN.{length, drop, replicate};
+ghost use lib.ListN.{length, drop};
 ghost use lib.Seq.{paste};
 ghost use Rattle.std.specs.Of.Vec.{vec-len, vec-items};
 ghost use Rattle.std.specs.Orderings.{Decides, When};
@@ -16,6 +15,7 @@ ghost use Rattle.strips.specs.Strips.{strip-words, lengths, replaced, Spotted,
 use stores::Source;
 use stores::Store;
 use stores::Unopened;
+use stores::blank_out;
 use stores::copy_word;
 use stores::front_len;
 use stores::put_word;
@@ -108,16 +108,6 @@ fn replace(part: &mut [u8], old: usize, word: &[Symbol], tail: usize)
 {
     shift(part, old, word.len(), tail);
     let _ = put_word(word, part);
-}
-
-// Makes the first n bytes corners.
-fn blank_out(memory: &mut [u8], n: usize)
-    requires { ⌜ n ≤ length (now memory) ⌝ }
-    ensures { λ _. ⌜ now (memory .exit) ≡ replicate n 0 ++ drop n (now (memory .entry)) ⌝ }
-{
-    for i in 0..n {
-        memory[i] = 0;
-    }
 }
 
 impl StripStore {

@@ -3,6 +3,7 @@ use Prim.Native.Nat.{_*_}
 use native.Mathlib.Omega.{arith}
 use lib.ListN.{drop}
 use Rattle.plain.specs.Plain.{Opens}
+use Rattle.stores.proofs.Fronts.{blank-front}
 use Rattle.strips.proofs.Cuts.{blank-cuts}
 use Rattle.strips.proofs.Steps.{refilled}
 use Rattle.strips.proofs.StripStore.open.Needs as need
@@ -12,7 +13,7 @@ ghost-result c =
     let m = c .args .memory in
     let n = c .args .width * c .args .height in
     let o : Opens (c .args .width) (c .args .height) 64 (c .len .result) = c .if-not-opens .ensures tt .0 refl in
-    let b = blank-cuts n _ (drop (4 * n) (c .deref-mut .result .now)) (refilled (m .len) (m .items) (c .blank-out .last .memory) (omega (arith, c .deref-mut .ensures .len, c .blank-out .kept)) ∙ c .blank-out .ensures) in
+    let b = blank-cuts n _ (drop (4 * n) (c .deref-mut .result .now)) (refilled (m .len) (m .items) (c .blank-out .last .bytes) (omega (arith, c .deref-mut .ensures .len, c .blank-out .kept)) ∙ c .blank-out .ensures ∙ blank-front (4 * n) (c .deref-mut .result .now) (omega (arith, o .least-total, c .len .ensures, c .deref-mut .ensures .len))) in
     ((o .some-width, o .most-width, o .some-height, o .most-height, omega arith), (b .each, tt))
 
 pub returns : need.returns
@@ -20,7 +21,7 @@ returns c =
     let m = c .args .memory in
     let n = c .args .width * c .args .height in
     let o : Opens (c .args .width) (c .args .height) 64 (c .len .result) = c .if-not-opens .ensures tt .0 refl in
-    let b = blank-cuts n _ (drop (4 * n) (c .deref-mut .result .now)) (refilled (m .len) (m .items) (c .blank-out .last .memory) (omega (arith, c .deref-mut .ensures .len, c .blank-out .kept)) ∙ c .blank-out .ensures) in (
+    let b = blank-cuts n _ (drop (4 * n) (c .deref-mut .result .now)) (refilled (m .len) (m .items) (c .blank-out .last .bytes) (omega (arith, c .deref-mut .ensures .len, c .blank-out .kept)) ∙ c .blank-out .ensures ∙ blank-front (4 * n) (c .deref-mut .result .now) (omega (arith, o .least-total, c .len .ensures, c .deref-mut .ensures .len))) in (
       record {
         some-width = o .some-width;
         most-width = o .most-width;
