@@ -1,5 +1,6 @@
 -- What the program tells of a word, byte for byte.
 --   line-at: what is told of a crossing of a drawing
+--   with-text: whether a group has a vertex, as a word of the line
 --   written: the bytes of such a line
 --   lines: the bytes of some lines
 --   meaning: the bytes told of a drawing

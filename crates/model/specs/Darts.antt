@@ -2,9 +2,13 @@
 --   dart: a dart leaves a pixel through the crossing at a place of a road
 --   same-dart, dart-le: whether two are one; their order by pixel, road, place
 --   is-dart: whether a sheet has a dart
+--   from-on: so many numbers from one on
 --   up-to: the numbers below a bound, in order
+--   darts-on, darts-in: the darts through a road, and out of a pixel
 --   darts: the darts of a sheet, in order
+--   or-first: a number, or 0 where there is none
 --   crossing-of: the number of a dart's crossing in its pixel
+--   leaving: the dart that leaves a pixel of a drawing through a crossing
 --   dart-of: the dart that leaves a pixel through the crossing with a number
 --   turn, unturn: from a dart's crossing to the one before it in its group, to the one after it
 --   opposite-of: leaves the entered pixel through the same crossing

@@ -4,12 +4,17 @@
 --   on-ring: a dart goes round by next through groups without a vertex
 --   first-that: the first of a list that passes a test
 --   sides: the pixels' roads, by pixel, then W, N, E, S
+--   side-fails: whether a pixel's road fails
+--   ring-refused, road-refused: refused with the place that was found, if one was
 --   check: the first failing road, then the first dart on a ring, else it passes
+--   given-if: a value where nothing was refused
 --   checked: what is given where the check passes, else refused as the check
 --   street-lines: for each sidewalk, by first dart, its darts and next of the last one
 --   item: a dart as text: pixel, road letter, place
 --   line-text, list-text: a line and a whole list as bytes
 --   street-list: the street list of a sheet, refused as the check
+--   lesser: the smaller of two darts
+--   then-go: going on where nothing was refused
 --   goes-round, root: the smallest dart of a dart's loop, by going on until it is home; 11 and 12 as next, at any step
 --   vertices: how many groups with a vertex a drawing has
 --   Counts, count: vertices, streets (half the sidewalks) and loops of a sheet, refused as the check

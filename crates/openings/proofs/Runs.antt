@@ -21,12 +21,14 @@ use Rattle.std.proofs.shelf.Lists.{at-drop-more, at-drop-all, getD-map}
 use Rattle.std.proofs.shelf.Tests.{leb-true, le-leb, and-parts, and-from, cases-bool, cond-true, cond-false}
 use Rattle.symbols.specs.declared.symbols.Symbol.{Symbol}
 use Rattle.rules.specs.Words.{Drawing, drawn}
+use Rattle.codec.specs.Records.{side}
+use Rattle.codec.proofs.Records.{side-from, side-parts}
 use Rattle.plain.specs.Plain.{Plain, Call, Opens, opened, step, run}
 use Rattle.plain.proofs.Runs.{last-accepted-there}
 use Rattle.stores.specs.Sources.{Told, fresh, empty-word, plain-told}
 use Rattle.slots.specs.Slots.{Sides, Opens-slots}
 use Rattle.openings.specs.declared.Write.{Write}
-use Rattle.openings.specs.Limits.{Limits, opened-within, side, slot-limits, strip-limits}
+use Rattle.openings.specs.Limits.{Limits, opened-within, slot-limits, strip-limits}
 use Rattle.openings.specs.Replays.{call-of, script, Opened-within, Replayed}
 
 pub run-more : (p q : Plain) (ws : List Write) (i : ℕ) (d : Write) → i < length ws → q ≡ step p (call-of (getD ws i d)) → run q (script (drop (i + 1) ws)) ≡ run p (script (drop i ws))
@@ -53,12 +55,6 @@ replayed limits p calls t l n o e =
 drawn-fresh : (k : ℕ) → map drawn (replicate k empty-word) ≡ replicate k []
 drawn-fresh zero = refl
 drawn-fresh (suc k) = ap (λ (x : List Drawing). [] ∷ x) (drawn-fresh k)
-
-side-from : (n : ℕ) → 1 ≤ n → n ≤ 64 → side n ≡ true
-side-from n a b = and-from (leb 1 n) (leb n 64) (le-leb 1 n a) (le-leb n 64 b)
-
-side-parts : (n : ℕ) → side n ≡ true → (1 ≤ n) × (n ≤ 64)
-side-parts n h = (let p = and-parts (leb 1 n) (leb n 64) h in (leb-true 1 n (p .0), leb-true n 64 (p .1)))
 
 module _ (room w h n : ℕ) where
   abbrev roomy : Bool

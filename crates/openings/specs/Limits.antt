@@ -1,13 +1,13 @@
 -- What an opening leads to.
 --   Limits: a size, the most symbols that one word and that all words may have
 --   opened-within: the plain sheet of an opening with these limits
---   side: a side is 1 to 64
 --   slot-limits, strip-limits: the limits of slots and of a strip over so much memory, if they can be opened
-use mathlib.Core.Bool.{Bool, cond, _&&_}
+use mathlib.Core.Bool.{cond, _&&_}
 use Prim.Native.Nat.{ℕ, _*_}
 use lib.Dec.{leb}
 use Rattle.std.specs.declared.option.Option.{Option}
 use Rattle.std.specs.declared.option.Option.the-variants.{Some, None}
+use Rattle.codec.specs.Records.{side}
 use Rattle.plain.specs.Plain.{Plain, opened}
 
 pub record Limits : Type 0 where
@@ -18,9 +18,6 @@ pub record Limits : Type 0 where
 
 abbrev pub opened-within : Limits → Plain
 opened-within l = opened (l .width) (l .height) (l .longest) (l .total)
-
-abbrev pub side : ℕ → Bool
-side n = leb 1 n && leb n 64
 
 abbrev pub slot-limits : ℕ → ℕ → ℕ → ℕ → Option Limits
 slot-limits room w h slot =

@@ -2,11 +2,15 @@
 --   told: an answer, with a refusal's number and values in its place
 --   exits-of: where lines that enter at the crossings of a word's text leave
 --   built-text: the text of the word that a table builds
---   sheet-from: the sheet of words given by their texts; nothing where one is no word
+--   one-more: a drawing more, where its word is one
+--   all-drawn: the drawings of words given by their texts; nothing where one is no word
+--   of-sheet: an answer about the sheet of such words
 --   list-of, count-of: the street list and the count of such a sheet
 --   record-of: the record of such a sheet
+--   list-in: the street list of a sheet, if there is one
 --   list-read: the street list of the sheet that a record tells, refused with 15 where it tells none
 --   entered-from: the pixel, road code and place at which a dart of such a sheet enters
+--   numbers-in, numbers-of: a count and a dart as numbers
 --   lines-text: lines of text, each ended by byte 10
 --   All-hold: each pair of a list is of two equal things
 use mathlib.Core.Path.{_≡_}

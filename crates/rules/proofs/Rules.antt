@@ -1,5 +1,6 @@
 -- The rules of a table, as tests that compute and as statements, say the same.
---   decides-roads, decides-flags, decides-pairs, decides-cross: each test decides its statement
+--   sorted-rising: roads that never fall from one record to the next rise over all records
+--   roads-tell, flags-tell, pairs-tell, cross-tell: each test fails exactly where its statement holds
 --   rules-are-told: a table has no fault exactly when it means a drawing
 use mathlib.Core.Path.{_≡_, refl, sym, ap, _∙_}
 use mathlib.Core.Logic.{_⊎_, inl, inr, _≢_, _↔_}

@@ -1,5 +1,6 @@
 -- Texts of known symbols and lists of symbols answer each other.
---   lettered-letter, letter-lettered: a symbol's character and a character's symbol
+--   lettered-letter: a symbol's character stands for it
+--   picked-is: what is picked from a list by a number has that number
 --   texts-come-back: the same for whole texts
 use mathlib.Core.Path.{_≡_, refl, sym, ap, _∙_}
 use mathlib.Core.Logic.{inl, inr}

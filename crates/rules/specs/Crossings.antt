@@ -3,11 +3,13 @@
 --   latest, soonest: the largest number below a bound, the smallest from a start on, that is of a group
 --   before: counterclockwise before a crossing in its group; before the group's first stands its last
 --   after: clockwise after a crossing in its group; after the group's last stands its first
+--   where-in: an answer for the crossings that there are
 --   leaves-at: the step inside a pixel: where a line that enters at a crossing leaves
 --   enters-at: the step that undoes it
 --   vertex-at: whether a crossing's group has a vertex
 --   count-on: how many crossings a road has
 --   place-of: the road of a crossing and its place there: how many crossings of that road stand before it
+--   one-on: a number one further on
 --   crossing-at: the crossing at a place of a road
 --   Same-drawing: as many crossings on each road, the same crossings together, the same ones with a vertex
 use mathlib.Core.Path.{_≡_}

@@ -7,7 +7,11 @@
 --     so have the words that are equal, and no others
 --   Turns, Steps-undo: the step inside a pixel and the step that undoes it stay in the group
 --   Places-come-back: crossing numbers and places of roads answer each other
---   Example, Examples: what is said of one word, one table; the worked examples
+--   exits: where lines that enter at the crossings leave
+--   word-example, table-example, of-word, of-table: what an example says of a word's text, of a table
+--   four-on-w: a table of four records on W
+--   All-hold: each pair is of two equal things
+--   Examples: the worked examples
 use mathlib.Core.Path.{_≡_}
 use mathlib.Core.Logic.{_↔_}
 use mathlib.Core.Bool.{Bool, true, false}

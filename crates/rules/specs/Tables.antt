@@ -1,16 +1,22 @@
 -- Crossing tables, the drawings that they mean, and the words built from them.
+--   blank: what stands for a record that there is not
 --   at: the record at a number
 --   size-of: how many records a group has
 --   roads-break: a road above 3, or below the one before it
 --   some-below: some number below a bound passes a test
+--   together: two records are of one group
 --   flags-break: two records of one group with different flags
 --   pairs-break: a group without a vertex that is not of two records
 --   groups-cross: records a < b < c < d with a and c in one group, b and d in another
 --   fault: the first rule that a table breaks
 --   first-of: the number of a group's first record
+--   named: a record whose group goes by its first record
 --   canonical: the drawing that a table means: each group goes by its first record
+--   mentions: some crossing is of a group
 --   symbol-at: the symbol of a crossing
+--   writes: the word from a crossing on
 --   word-of: the word of a drawing
+--   unless: a value, or the refusal where there is one
 --   build-word: the word built from a table, or why the table means no drawing
 --   Rising, Flagged, Paired, Uncrossed, Means: the rules as statements
 use mathlib.Core.Path.{_≡_}

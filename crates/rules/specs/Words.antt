@@ -1,15 +1,20 @@
 -- Words, and the drawings that they mean.
 --   Drawing: the crossings of a pixel in clockwise order, each with its road, its group and whether that has a vertex;
 --     a group's number is its first crossing, so that two drawings are the same exactly when they are equal
+--   is-corner: a symbol is a corner
 --   corners: how many corners a word has
 --   ends: whether its last symbol is a corner
 --   shaped: 4 to 64 symbols, four of them corners, one of these last
+--   crossing: a crossing by its road, group and vertex
+--   put: a crossing before a drawing, if there is one
 --   reads: what symbols draw, read from left to right with the marks that are open
 --   drawing-of: what a word draws; nothing where it does not read through
+--   or-empty: a drawing, or the empty one where there is none
 --   drawn: the same, empty where the word does not read through
 --   lawful: shaped, and it reads through
 --   Lawful: the statement of it
 --   judged: a word, or why its symbols are none
+--   judged-spelt: the same of the symbols of a text, if each character is one
 --   read-word: the word of a text, or why the text is none
 use mathlib.Core.Path.{_≡_}
 use mathlib.Core.Bool.{Bool, true, false, cond, _&&_}

@@ -4,7 +4,6 @@
 --   slot-lent, stored: slots seen through the loans of the memory
 --   blanked, put-lawful: the memory after an opening, lawful words after a write
 --   over-slot: a word that does not fit is longer than its slot
---   judged-given: what is judged to be a word is one
 --   slots-keep, never-full: the words of slots keep to the slot and to all slots together
 --   never-refused: so no write is refused for want of room in all slots
 --   blank-lawful, blank-words: slots of zeros hold the empty word everywhere
@@ -23,7 +22,7 @@ use Rattle.std.specs.declared.result.Result.{Result}
 use Rattle.std.specs.declared.result.Result.the-variants.{Ok, Err}
 use Rattle.std.specs.Options.{isSome}
 use Rattle.std.specs.shelf.Lists.{All}
-use Rattle.std.proofs.shelf.Elements.{all-from-getD}
+use Rattle.std.proofs.shelf.Elements.{all-from-getD, all-set}
 use Rattle.std.proofs.shelf.Sums.{sumBy-le}
 use Rattle.std.proofs.shelf.Lists.{take-at, length-take, getD-set-same, getD-set-other, getD-replicate, ext-getD, length-set, take-replicate, drop-replicate, take-append-le, drop-append-le, length-take-le, length-drop}
 use Rattle.std.proofs.shelf.Parts.{between-is, take-putMid-below, drop-putMid, between-putMid}
@@ -34,14 +33,12 @@ use Rattle.symbols.specs.declared.refusals.Refusal.{Refusal}
 use Rattle.symbols.specs.declared.refusals.Refusal.the-variants.{NoPixel, NoWord, Unlawful, OverLongest, OverTotal}
 use Rattle.symbols.specs.Refusals.{filled}
 use Rattle.rules.specs.Words.{Drawing, lawful, Lawful, shaped, drawing-of, drawn, judged}
-use Rattle.codec.specs.Words.{left}
-use Rattle.codec.specs.Loops as corner
 use Rattle.plain.specs.Plain.{Answer, Keeps, symbols-in, symbols-of, answer, write}
 use Rattle.plain.specs.Statements.{told}
 use Rattle.stores.specs.Sources.{Told, empty-word, plain-told}
 use Rattle.stores.specs.Bytes.{decode, decoded, front-word, encoded}
-use Rattle.stores.proofs.Fronts.{front-encoded}
-use Rattle.stores.proofs.Writes.{counted, write-no-pixel, write-bad, write-long, write-fine, all-set, drawn-short, keeps-told}
+use Rattle.stores.proofs.Fronts.{up-to-short, front-encoded}
+use Rattle.stores.proofs.Writes.{counted, write-no-pixel, write-bad, write-long, write-fine, drawn-short, keeps-told}
 use Rattle.slots.specs.Slots.{slot-word, slot-words, slots-told, Sides, Slots, Never-full}
 use Rattle.slots.specs.Laws.{word-there, length-words, slots-lawful}
 
@@ -181,21 +178,7 @@ stored items lent part new len n k p w size is b room short law wrote left =
     ∙ take-at (putMid (p * n) n items part) (drop (length (putMid (p * n) n items part)) items) len (lput ∙ sym size) in
     (put-slot n k p w items part new b (omega arith) short law wrote′ new′, ap length new′ ∙ lput)
 
--- what is judged to be a word is one
-pub judged-given : (v w : List Symbol) → Ok v ≡ judged w → (Ok w ≡ judged w) × Lawful w
-judged-given v w e = by (shaped w) (isSome (drawing-of w)) e
-  where
-    by : (a c : Bool) → Ok v ≡ cond a (cond c (Ok w) (Err Unlawful)) (Err NoWord) → (Ok w ≡ cond a (cond c (Ok w) (Err Unlawful)) (Err NoWord)) × ((a && c) ≡ true)
-    by true true e = (refl, refl)
-    by true false e = (let z : _≡_ {A = ℕ} 0 1 = cc in absurd (omega arith))
-    by false c e = (let z : _≡_ {A = ℕ} 0 1 = cc in absurd (omega arith))
-
 -- a word in a slot is no longer than the slot
-up-to-short : (z : ℕ) (v : List Symbol) → length (corner.up-to z v) ≤ length v
-up-to-short zero v = omega arith
-up-to-short (suc z) [] = omega arith
-up-to-short (suc z) (s ∷ v) = omega (arith, up-to-short (left s z) v)
-
 pub slot-short : (n : ℕ) (bs : List ℕ) (i : ℕ) → length (slot-word n bs i) ≤ n
 slot-short n bs i =
     let p : List ℕ = take n (drop (i * n) bs) in
@@ -220,7 +203,7 @@ pub never-full : (w h n : ℕ) (bs : List ℕ) (p : ℕ) (v : List Symbol) → S
 never-full w h n bs p v d s law short =
     let k = slots-keep w h n bs d s in
     let ds : List Drawing = map drawn (slot-words n (w * h) bs) in
-    let a = all-set (λ (x : Drawing). symbols-in x ≤ n) ds p (drawn v) (k .to-longest) (omega (arith, counted v law)) in
+    let a = all-set (λ (x : Drawing). symbols-in x ≤ n) ds p (drawn v) (omega (arith, counted v law)) (k .to-longest) in
     let long : length (set ds p (drawn v)) ≡ w * h = length-set ds p (drawn v) ∙ length-map (slot-words n (w * h) bs) drawn ∙ length-words n (w * h) bs in
     subst (λ (x : ℕ). symbols-of (set ds p (drawn v)) ≤ x * n) long (sumBy-le symbols-in n (set ds p (drawn v)) a)
 

@@ -16,6 +16,7 @@ use Rattle.std.specs.declared.result.Result.the-variants.{Err}
 use Rattle.symbols.specs.declared.refusals.Refusal.the-variants.{OverTotal}
 use Rattle.symbols.specs.declared.symbols.Symbol.{Symbol}
 use Rattle.rules.specs.Words.{lawful}
+use Rattle.model.specs.Sheets.{most-side}
 use Rattle.model.specs.Darts.{up-to}
 use Rattle.plain.specs.Plain.{answer, write}
 use Rattle.stores.specs.Sources.{Told, plain-told}
@@ -31,7 +32,7 @@ abbrev pub slots-told : ℕ → ℕ → ℕ → List ℕ → Told
 slots-told w h n bs = record { width = w; height = h; words = slot-words n (w * h) bs }
 
 abbrev pub Sides : ℕ → ℕ → Type 0
-Sides w h = (1 ≤ w) × (w ≤ 64) × (1 ≤ h) × (h ≤ 64)
+Sides w h = (1 ≤ w) × (w ≤ most-side) × (1 ≤ h) × (h ≤ most-side)
 
 abbrev pub Slots : ℕ → ℕ → ℕ → List ℕ → Type 0
 Slots w h n bs = (4 ≤ n) × (n ≤ 64) × (w * h * n ≤ length bs) × ((i : ℕ) → i < w * h → lawful (slot-word n bs i) ≡ true)

@@ -13,6 +13,8 @@ use stores::Store;
 use stores::Unopened;
 use stores::blank_out;
 use stores::copy_word;
+use stores::has_pixel;
+use stores::pixels_in;
 use stores::put_word;
 use symbols::Refusal;
 use symbols::Symbol;
@@ -27,20 +29,6 @@ pub struct SlotStore {
     slot: usize,
     ghost sides: { Sides width height },
     ghost sound: { Slots width height slot (vec-items memory) },
-}
-
-// How many pixels there are.
-fn pixels_in(width: u16, height: u16) -> usize
-    ensures { λ r. ⌜ r ≡ width * height ⌝ }
-{
-    usize::from(width) * usize::from(height)
-}
-
-// Whether there is such a pixel.
-fn has_pixel(width: u16, height: u16, p: usize) -> bool
-    ensures { λ r. ⌜ Decides r (p < width * height) ⌝ }
-{
-    p < pixels_in(width, height)
 }
 
 // Whether a word is no longer than a slot.
@@ -73,7 +61,7 @@ impl SlotStore {
         slot: usize,
     ) -> Result<SlotStore, Unopened>
         ensures { λ r. ⌜ Cases r
-            (λ s. Opens-slots (vec-len memory) width height slot × (s .slot ≡ slot) × (slots-told (s .width) (s .height) (s .slot) (vec-items (s .memory)) ≡ fresh width height))
+            (λ s. Opens-slots (vec-len memory) width height slot × (s .slot ≡ slot) × (slots-told (s .width) (s .height) (s .slot) (vec-items (s .memory)) ≡ fresh width height) × (vec-len (s .memory) ≡ vec-len memory))
             (λ e. (Opens-slots (vec-len memory) width height slot → ⊥) × (e .refusal ≡ Opening) × (e .memory ≡ memory)) ⌝ }
     {
         if !suits(memory.len(), width, height, slot) {
@@ -121,11 +109,10 @@ pub impl Source for SlotStore as SlotSource {
     }
 
     fn word(&self, pixel: u32, out: &mut [Symbol]) -> Result<usize, Refusal> {
-        let p = pixel as usize;
-        if !has_pixel(self.width, self.height, p) {
+        if !has_pixel(self.width, self.height, pixel) {
             return Err(Refusal::NoPixel);
         }
-        let at = p * self.slot;
+        let at = pixel as usize * self.slot;
         copy_word(&self.memory[at..at + self.slot], out)
     }
 }
@@ -144,8 +131,7 @@ pub impl Store for SlotStore as SlotWrites {
     }
 
     fn write(&mut self, pixel: u32, word: &[Symbol]) -> Result<(), Refusal> {
-        let p = pixel as usize;
-        if !has_pixel(self.width, self.height, p) {
+        if !has_pixel(self.width, self.height, pixel) {
             return Err(Refusal::NoPixel);
         }
         if let Err(refusal) = Word::from_symbols(word) {
@@ -154,7 +140,7 @@ pub impl Store for SlotStore as SlotWrites {
         if !fits_slot(self.slot, word.len()) {
             return Err(Refusal::OverLongest);
         }
-        let at = p * self.slot;
+        let at = pixel as usize * self.slot;
         let end = at + self.slot;
         let _ = put_word(word, &mut self.memory[at..end]);
         Ok(())

@@ -1,9 +1,9 @@
 -- The word at the front of bytes, a byte at a time.
---   decode-zero, decode-other: the byte of a corner is 0
+--   decode-other: only the byte 0 is a corner
 --   up-to-short, up-to-take: what is up to a corner is a front
 --   Counting, count-on, count-corner, count-last, count-all: one turn of the loop that counts corners, and its ends
 --   put-more: one turn of a loop that writes to the front of memory
---   decode-code: the symbol of a code
+--   decode-code, decoded-encoded: the symbol of a code, and the symbols of the bytes of a word
 --   Fills, fills-short, fills-well: memory that an answer fills, or is too long for
 --   blank-front: memory whose front was made zeros
 --   front-encoded: the word at the front of a lawful word's bytes is that word, whatever follows
@@ -47,6 +47,11 @@ decode-other (suc (suc (suc (suc (suc (suc (suc b))))))) h =
     let q : suc (suc (suc (suc (suc (suc (suc b)))))) ≡ n = omega arith in
     subst (λ (x : ℕ). is-corner (decode x) ≡ false) (sym q)
     (rw (ne-eqb n 0 (omega arith), ne-eqb n 1 (omega arith), ne-eqb n 2 (omega arith), ne-eqb n 3 (omega arith), ne-eqb n 4 (omega arith), ne-eqb n 5 (omega arith), ne-eqb n 6 (omega arith)))
+
+pub up-to-short : (z : ℕ) (v : List Symbol) → length (up-to z v) ≤ length v
+up-to-short zero v = omega arith
+up-to-short (suc z) [] = omega arith
+up-to-short (suc z) (s ∷ v) = omega (arith, up-to-short (left s z) v)
 
 pub up-to-take : (z : ℕ) (v : List Symbol) → up-to z v ≡ take (length (up-to z v)) v
 up-to-take zero v = refl
@@ -120,7 +125,7 @@ decode-code JunctionOpen = refl
 decode-code Branch = refl
 decode-code JunctionClose = refl
 
-decoded-encoded : (w : List Symbol) → decoded (encoded w) ≡ w
+pub decoded-encoded : (w : List Symbol) → decoded (encoded w) ≡ w
 decoded-encoded [] = refl
 decoded-encoded (s ∷ w) = λ i. decode-code s i ∷ decoded-encoded w i
 

@@ -1,9 +1,10 @@
 -- What a write answers and leaves, case by case, and what a store keeps to.
 --   counted: a lawful word has as many symbols as its drawing counts
+--   accepted-word: what is judged to be a word is one
 --   told-sheetly: the sheet of lawful words is a sheet
 --   Wrote: the answer and the plain sheet after a write
 --   write-no-pixel, write-bad, write-long, write-full, write-fine: the cases of a write
---   all-set, drawn-short: what holds of each word
+--   drawn-short: the drawings of short words count few symbols
 --   keeps-told: words that keep to a longest and a total
 use mathlib.Core.Path.{_≡_, refl, sym, ap, subst, _∙_}
 use mathlib.Core.Logic.{inl, inr}
@@ -24,11 +25,16 @@ use Rattle.rules.specs.Words.{Drawing, Lawful, drawn, judged}
 use Rattle.model.specs.Sheets.{Sheet, Sheetly, Is-drawing}
 use Rattle.rules.proofs.Correspondence.{words-come-back}
 use Rattle.plain.specs.Plain.{Plain, Keeps, Opens, symbols-in, symbols-of, answer, step, write}
-use Rattle.plain.proofs.Offers.{words-counted}
+use Rattle.plain.proofs.Offers.{judged-word, words-counted}
 use Rattle.stores.specs.Sources.{Told, Lawful-told, sheet-told, plain-told}
 
 pub counted : (w : List Symbol) → Lawful w → symbols-in (drawn w) ≡ length w
 counted w l = words-counted .0 w l
+
+pub accepted-word : (w v : List Symbol) → Ok v ≡ judged w → (Ok w ≡ judged w) × Lawful w
+accepted-word w v e =
+    let j = judged-word w v (sym e) in
+    (ap Ok (j .0) ∙ e, subst Lawful (sym (j .0)) (j .1))
 
 drawn-all : (ws : List (List Symbol)) → All Lawful ws → All Is-drawing (map drawn ws)
 drawn-all [] a = tt
@@ -82,11 +88,6 @@ module _ (t : Told) (l n : ℕ) where
         record { answer-is = rw (e, sym j, short b, f); after-is = q ∙ rw (e, sym j, short b, f) }
 
 -- all words
-
-pub all-set : {A : Type 0} (P : A → Type 0) (xs : List A) (i : ℕ) (x : A) → All P xs → P x → All P (set xs i x)
-all-set P [] i x a h = tt
-all-set P (y ∷ ys) zero x a h = (h, a .1)
-all-set P (y ∷ ys) (suc i) x a h = (a .0, all-set P ys i x (a .1) h)
 
 pub drawn-short : (ws : List (List Symbol)) (m : ℕ) → All Lawful ws → All (λ w. length w ≤ m) ws → All (λ d. symbols-in d ≤ m) (map drawn ws)
 drawn-short [] m a b = tt

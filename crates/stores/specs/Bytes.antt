@@ -1,4 +1,5 @@
 -- Words as bytes: a symbol is its code, and a word ends at its fourth corner.
+--   or-dead-end: a symbol, or a dead end where there is none
 --   decode: the symbol of a byte; a byte that is no code counts as a dead end
 --   decoded: the symbols of bytes
 --   front-word: the word at the front of bytes: the symbols up to the fourth corner

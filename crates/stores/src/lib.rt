@@ -8,11 +8,14 @@ use symbols::Refusal;
 use symbols::Symbol;
 
 mod bytes;
+mod pixels;
 
 pub use bytes::blank_out;
 pub use bytes::copy_word;
 pub use bytes::front_len;
 pub use bytes::put_word;
+pub use pixels::has_pixel;
+pub use pixels::pixels_in;
 
 // An opening that was refused hands the memory back.
 #[derive(Drop)]

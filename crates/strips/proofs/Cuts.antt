@@ -36,7 +36,7 @@ use Rattle.codec.proofs.Words.{lawful-ends}
 use Rattle.codec.proofs.Loops.{up-to-word}
 use Rattle.plain.specs.Plain.{symbols-in, symbols-of}
 use Rattle.stores.specs.Bytes.{decode, decoded, front-word, encoded}
-use Rattle.stores.proofs.Fronts.{up-to-take, decode-code}
+use Rattle.stores.proofs.Fronts.{up-to-take, decoded-encoded}
 use Rattle.stores.proofs.Writes.{counted}
 use Rattle.stores.specs.Sources.{empty-word}
 use Rattle.strips.specs.Strips.{strip-words, lengths, replaced, Each-lawful, strip-all}
@@ -217,10 +217,6 @@ place-of n i bs at old tail h isat isold istail =
     }
 
 -- one word gave way to another
-
-decoded-encoded : (w : List Symbol) → decoded (encoded w) ≡ w
-decoded-encoded [] = refl
-decoded-encoded (s ∷ w) = λ k. decode-code s k ∷ decoded-encoded w k
 
 known-set : (ws : List (List ℕ)) (i : ℕ) (w : List ℕ) → i < length ws → lawful (decoded w) ≡ true → Known ws → Known (set ws i w)
 known-set ws i w there good h k l =

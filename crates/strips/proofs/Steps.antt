@@ -3,9 +3,8 @@
 --   replaced-by: a shift and a word written to the front
 --   found: where a question finds its word
 --   order, stands: where a write finds its word
---   accepted-word: a word that is judged to be one
 --   moved, rewritten: the memory after a write, and its words
-use mathlib.Core.Path.{_≡_, sym, ap, subst, _∙_}
+use mathlib.Core.Path.{_≡_, sym, ap, _∙_}
 use mathlib.Core.List.{List, [], _∷_, _++_, append-assoc}
 use Prim.Native.Nat.{ℕ, _+_, _-_, _<_, _≤_}
 use native.Mathlib.Omega.{arith}
@@ -14,12 +13,10 @@ use lib.Seq.{paste}
 use borrow.Rule.Slice.PartMut.{putMid, postOf}
 use Rattle.std.proofs.shelf.Lists.{take-at, take-rest, length-take-le, drop-at, drop-all, append-nil}
 use Rattle.std.proofs.shelf.Tests.{le-ltb, cond-false}
-use Rattle.std.specs.declared.result.Result.the-variants.{Ok}
 use Rattle.symbols.specs.declared.symbols.Symbol.{Symbol}
 use Rattle.symbols.specs.Refusals.{filled}
 use Rattle.symbols.specs.Symbols.{code}
-use Rattle.rules.specs.Words.{Lawful, judged}
-use Rattle.plain.proofs.Offers.{judged-word}
+use Rattle.rules.specs.Words.{Lawful}
 use Rattle.stores.specs.Bytes.{front-word, encoded}
 use Rattle.strips.specs.Strips.{strip-words, lengths, replaced, Spotted, Each-lawful}
 use Rattle.strips.proofs.Cuts.{span, strip-at, Place, place-of, word-within, Placed, place-sets}
@@ -56,11 +53,6 @@ stands items lent n i at old tail h e s =
     (s .before ∙ ap (λ x. lengths (strip-words i x)) e)
     (s .here ∙ ap (λ x. span (drop at x)) e)
     (s .all ∙ ap (λ x. lengths (strip-words n x)) e)
-
-pub accepted-word : (w v : List Symbol) → Ok v ≡ judged w → (Ok w ≡ judged w) × Lawful w
-accepted-word w v e =
-    let j = judged-word w v (sym e) in
-    (ap Ok (j .0) ∙ e, subst Lawful (sym (j .0)) (j .1))
 
 pub moved : (m lent part w : List ℕ) (at old tail len k : ℕ) → length w ≡ k → len ≡ length m → at + old + tail ≤ len → at + k + tail ≤ len → lent ≡ m
     → part ≡ replaced (take (length lent - at) (drop at lent)) old tail w

@@ -17,6 +17,7 @@ use Rattle.std.specs.shelf.Lists.{All}
 use Rattle.std.proofs.shelf.Elements.{all-from-getD}
 use Rattle.symbols.specs.declared.symbols.Symbol.{Symbol}
 use Rattle.rules.specs.Words.{lawful, Lawful}
+use Rattle.model.specs.Sheets.{most-side}
 use Rattle.stores.specs.Sources.{Told, Lawful-told}
 use Rattle.stores.specs.Bytes.{front-word}
 
@@ -41,7 +42,7 @@ abbrev pub strip-told : ℕ → ℕ → List ℕ → Told
 strip-told w h bs = record { width = w; height = h; words = strip-words (w * h) bs }
 
 abbrev pub Sides : ℕ → ℕ → ℕ → Type 0
-Sides w h room = (1 ≤ w) × (w ≤ 64) × (1 ≤ h) × (h ≤ 64) × (4 * (w * h) ≤ room)
+Sides w h room = (1 ≤ w) × (w ≤ most-side) × (1 ≤ h) × (h ≤ most-side) × (4 * (w * h) ≤ room)
 
 abbrev pub Each-lawful : ℕ → List ℕ → Type 0
 Each-lawful n bs = (i : ℕ) → i < n → lawful (getD (strip-words n bs) i []) ≡ true

@@ -18,6 +18,8 @@ use stores::Unopened;
 use stores::blank_out;
 use stores::copy_word;
 use stores::front_len;
+use stores::has_pixel;
+use stores::pixels_in;
 use stores::put_word;
 use symbols::Refusal;
 use symbols::Symbol;
@@ -45,18 +47,7 @@ struct Spot {
 fn opens(room: usize, width: u16, height: u16) -> bool
     ensures { λ r. ⌜ Decides r (Opens width height 64 room) ⌝ }
 {
-    1 <= width
-        && width <= 64
-        && 1 <= height
-        && height <= 64
-        && 4 * (width as usize * height as usize) <= room
-}
-
-// Whether the sheet has a pixel.
-fn has_pixel(count: usize, pixel: u32) -> bool
-    ensures { λ r. ⌜ Decides r (pixel < count) ⌝ }
-{
-    (pixel as usize) < count
+    1 <= width && width <= 64 && 1 <= height && height <= 64 && 4 * pixels_in(width, height) <= room
 }
 
 // Where the word behind the first n words begins.
@@ -125,7 +116,7 @@ impl StripStore {
             });
         }
         let mut memory = memory;
-        let n = 4 * (width as usize * height as usize);
+        let n = 4 * pixels_in(width, height);
         blank_out(&mut memory, n);
         Ok(StripStore {
             memory,
@@ -161,8 +152,7 @@ pub impl Source for StripStore as StripSource {
     }
 
     fn word(&self, pixel: u32, out: &mut [Symbol]) -> Result<usize, Refusal> {
-        let count = self.width as usize * self.height as usize;
-        if !has_pixel(count, pixel) {
+        if !has_pixel(self.width, self.height, pixel) {
             return Err(Refusal::NoPixel);
         }
         let at = seek(&self.memory, pixel as usize);
@@ -184,13 +174,13 @@ pub impl Store for StripStore as StripWrites {
     }
 
     fn write(&mut self, pixel: u32, word: &[Symbol]) -> Result<(), Refusal> {
-        let count = self.width as usize * self.height as usize;
-        if !has_pixel(count, pixel) {
+        if !has_pixel(self.width, self.height, pixel) {
             return Err(Refusal::NoPixel);
         }
         if let Err(refusal) = Word::from_symbols(word) {
             return Err(refusal);
         }
+        let count = pixels_in(self.width, self.height);
         let spot = find(&self.memory, count, pixel as usize);
         if !has_room(self.memory.len(), spot, word.len()) {
             return Err(Refusal::OverTotal);

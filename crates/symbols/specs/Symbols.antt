@@ -1,10 +1,12 @@
 -- Symbols and roads, with their codes and characters, and the text of a word.
 --   symbols: the seven symbols, in the order of their codes
 --   code, letter: the code and the character of a symbol
+--   picked: the first of a list at which a function is a number
 --   coded, lettered: the symbol with a code, with a character, if there is one
 --   roads: the four roads, in the order of their codes
 --   road-code, road-letter: the code and the letter of a road
 --   road-coded: the road with a code, if there is one
+--   joined: one more before a list, if there are both
 --   spelt: the symbols of a text, if each of its characters is one; a text is its list of bytes
 --   text: the text of symbols
 use mathlib.Core.Bool.{Bool, true, false, cond}

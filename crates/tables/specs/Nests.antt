@@ -1,9 +1,12 @@
 -- The test for crossing groups with a stack, over the first record of each record's group.
 --   within: whether a number stands in a list
+--   firsts-in: the first record of a record's group
 --   firsts: the first record of its group, for each record
+--   inner: the open groups after a record of a group that is open
 --   turn: the open groups, innermost first, after one record more; nothing where groups cross
 --   nests: whether no groups cross, by going over all records
 --   pile: the stack that the first places of a list hold, the last of them on top
+--   piled: the same of a depth, if there is one
 --   Lasts: for each number below a bound, a place where the same number stands last
 --   Goes-on: for each number, whether it stands again further on
 use mathlib.Core.Path.{_≡_}

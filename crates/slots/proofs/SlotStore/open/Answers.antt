@@ -35,4 +35,5 @@ returns c =
       refl,
       ap (λ (ws : List (List Symbol)). record { width = c .args .width; height = c .args .height; words = ws })
           (blank-words (c .args .slot) k (drop (c .pixels-in .result * c .args .slot) (c .deref-mut .result .now)) _ (o .least-slot) e),
+      refl,
     )
