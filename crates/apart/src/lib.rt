@@ -1,4 +1,6 @@
 // Two sheets told apart by their lists and records, whatever keeps their words.
+#![tactic(auto)]
+
 ghost use Rattle.std.specs.Prelude.{◌≡◌, ◌≤◌, length, IfOk, Decides, MatchResult};
 ghost use Rattle.symbols.specs.declared.refusals.Refusal.TheVariants.{Opening};
 ghost use Rattle.symbols.specs.Refusals.{fill_answer, filled};

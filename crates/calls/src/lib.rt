@@ -1,4 +1,6 @@
 // Calls that change a sheet, whatever keeps its words. Each answers and leaves what the plain sheet does.
+#![tactic(auto)]
+
 mod pixels;
 mod scripts;
 mod whole;

@@ -1,4 +1,6 @@
 // Calls for C: opposite, next and previous on the bytes of a record and the code of a dart. They allocate nothing.
+#![tactic(auto)]
+
 ghost use Rattle.std.specs.Prelude.{◌≡◌, ◌<◌, pos, neg_ℤ, IfOk};
 ghost use Rattle.symbols.specs.Refusals.{number};
 ghost use Rattle.model.specs.Darts.{opposite, next, previous};

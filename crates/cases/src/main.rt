@@ -2,6 +2,8 @@
 //   word TAB TEXT: its crossings as road:group:vertex, where lines that enter them leave, and the text built from its table
 //   table TAB RECORDS: the text of the word that is built
 // Either answers `refused N` in place of that.
+#![tactic(auto)]
+
 use drawings::Drawing;
 use std::alloc::{AllocError, Global};
 use std::io::{BufRead, BufReader};

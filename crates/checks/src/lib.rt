@@ -1,4 +1,6 @@
 // The check and the counts of any source.
+#![tactic(auto)]
+
 ghost use Rattle.std.specs.Prelude.{◌≡◌, Decides};
 ghost use Rattle.model.specs.Statements.{NoRoadFails};
 ghost use Rattle.model.specs.Streets.{check, count};

@@ -1,4 +1,6 @@
 // Records of sheets, and the theorems about them. Each function's contract is one; the function itself does nothing.
+#![tactic(auto)]
+
 ghost use Rattle.codec.specs.Statements.{SheetsComeBack, RecordsComeBack, RecordsSound, RecordsTell, RefusalsRight, RunsWhole, Examples};
 
 // The record of a sheet is read as that sheet.

@@ -1,4 +1,6 @@
 // The drawing of one pixel: read from the symbols of a word, and asked about its crossings.
+#![tactic(auto)]
+
 ghost use Rattle.std.specs.Prelude.{◌≡◌, ◌≤◌, false, take, is_some};
 ghost use Rattle.rules.specs.Tables.{fault};
 

@@ -1,4 +1,6 @@
 // What a word means, as text.
+#![tactic(auto)]
+
 ghost use Rattle.std.specs.Prelude.{◌≡◌, ℕ, ◌<◌, ◌≤◌, length, IfOk, Some, None, string_bytes};
 ghost use Rattle.rules.specs.Crossings.{where_in};
 ghost use Rattle.drawings.specs.Drawings.{crossings};

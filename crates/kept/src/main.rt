@@ -1,6 +1,8 @@
 // Runs writes through both stores, a case a line, so that the answers can be compared with worked out ones.
 //   slots TAB W H SLOT MEMORY TAB WRITES, or strip TAB W H MEMORY TAB WRITES, with a write as PIXEL:WORD
 // The answer has the number of each refusal, 0 for none, and then the words of all pixels; or `refused N`.
+#![tactic(auto)]
+
 use openings::{Opens, SlotOpening, StripOpening};
 use std::alloc::{AllocError, Global};
 use std::io::{BufRead, BufReader};

@@ -1,4 +1,6 @@
 // What a street list tells of its sheet.
+#![tactic(auto)]
+
 ghost use Rattle.lists.specs.Statements.{ListsCover, SidewalksPart, TextsTell, ListsTell};
 
 // Left of the arrows of a list stands every dart once and no other, each followed by its next.

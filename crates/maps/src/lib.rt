@@ -1,4 +1,6 @@
 // The darts of any source: opposite, next and previous, as the sheet of its words has them.
+#![tactic(auto)]
+
 ghost use Rattle.std.specs.Prelude.{◌≡◌, if◌then◌else◌, Some, None, Ok, Err, nat_lt};
 ghost use Rattle.symbols.specs.declared.refusals.Refusal.TheVariants.{NoDart};
 ghost use Rattle.model.specs.Sheets.{pixels, fails};

@@ -1,4 +1,6 @@
 // Sheets of pixels and their darts: definitions, and the laws over them.
+#![tactic(auto)]
+
 ghost use Rattle.model.specs.Statements.{NextUndone, OppositeUndone, NextOneToOne, NextReturns, DartsListed};
 
 mod darts;

@@ -1,4 +1,6 @@
 // Stores as they are opened and written, whatever keeps the words.
+#![tactic(auto)]
+
 ghost use Rattle.std.specs.Prelude.{◌≡◌, ℕ, List, Some, None, vec_len, Option, MatchResult};
 ghost use Rattle.symbols.specs.declared.refusals.Refusal.TheVariants.{Opening};
 ghost use Rattle.plain.specs.Plain.{run, step};

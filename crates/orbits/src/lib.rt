@@ -1,4 +1,6 @@
 // The orbits of a one-to-one function on a finite list, and the sidewalks that cut them: theorems at any type.
+#![tactic(auto)]
+
 ghost use Rattle.orbits.specs.Statements.{Pigeonhole, Return, Undone, Loops, Roots, Rings, Walks, Stops, Covers, Tells, Listed, Twins};
 
 // Members of a list, more of them than it has, repeat.

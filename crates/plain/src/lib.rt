@@ -1,4 +1,6 @@
 // The laws over calls on a plain sheet and runs of calls. Each function's contract is one; the function itself does nothing.
+#![tactic(auto)]
+
 ghost use Rattle.plain.specs.Statements.{WordsCounted, RunsKeep, RefusedAltersNothing, AcceptedChanges, LastAccepted, Examples};
 
 // The word of a drawing has as many symbols as a plain sheet counts for it.

@@ -1,4 +1,6 @@
 // The worked examples.
+#![tactic(auto)]
+
 ghost use Rattle.plates.specs.Plates.{PlatesShown};
 ghost use Rattle.plates.specs.Worked.{WordsWorked, TablesWorked, SheetsWorked, RecordsWorked, ReadingsWorked};
 

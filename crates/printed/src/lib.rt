@@ -1,4 +1,6 @@
 // What the program `streets` prints for a record.
+#![tactic(auto)]
+
 ghost use Rattle.std.specs.Prelude.{◌≡◌, [], ◌∷◌, IfOk, Some, vec_len, string_bytes};
 ghost use Rattle.symbols.specs.Symbols.{road_letter};
 ghost use Rattle.model.specs.Streets.{street_list};

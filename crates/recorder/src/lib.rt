@@ -1,4 +1,6 @@
 // Records of sources: a source's words as bytes, written into memory that is lent.
+#![tactic(auto)]
+
 ghost use Rattle.std.specs.Prelude.{◌≡◌, ◌+◌, ◌*◌, ◌/◌, ◌^◌, ◌<◌, ◌≤◌, length};
 ghost use Rattle.symbols.specs.Refusals.{fill_answer, filled};
 ghost use Rattle.codec.specs.Records.{bytes_of};

@@ -1,4 +1,6 @@
 // Records read in place: a source that answers straight from a record's bytes.
+#![tactic(auto)]
+
 ghost use Rattle.std.specs.Prelude.{◌≡◌, ◌*◌, ◌^◌, ◌<◌, ◌≤◌, true, length, take, Some, None, MatchOption, MatchResult};
 ghost use Rattle.symbols.specs.declared.refusals.Refusal.TheVariants.{BadRecord};
 ghost use Rattle.codec.specs.Bits.{bits_of};

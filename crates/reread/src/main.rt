@@ -1,6 +1,8 @@
 // Reads records, a case a line in hexadecimal, and writes each of them again, so that both can be compared with worked out
 // ones. The answer is what `streets` prints, with a bar for the end of a line; and for a record then the size, the words of
 // all pixels, the record written from them, and what is told of its darts.
+#![tactic(auto)]
+
 use darts::tell_darts;
 use printed::tell_streets;
 use recorder::{record_len, write_record};

@@ -1,4 +1,6 @@
 // Records written and read again.
+#![tactic(auto)]
+
 ghost use Rattle.std.specs.Prelude.{◌≡◌, ◌<◌, ◌≤◌, length, take, Some, None, MatchResult};
 ghost use Rattle.symbols.specs.declared.refusals.Refusal.TheVariants.{Short, BadRecord};
 ghost use Rattle.codec.specs.Records.{bytes_of, sheet_of};

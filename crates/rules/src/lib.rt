@@ -1,4 +1,6 @@
 // The theorems about words, tables and drawings. Each function's contract is one; the function itself does nothing.
+#![tactic(auto)]
+
 ghost use Rattle.rules.specs.Statements.{TextsComeBack, WordsComeBack, TablesComeBack, RulesAreTold, DrawingsAreTold, StepsUndo, PlacesComeBack, Examples};
 
 // Texts of known symbols and lists of symbols answer each other.

@@ -1,4 +1,6 @@
 // The calls on a sheet, whatever keeps its words.
+#![tactic(auto)]
+
 ghost use Rattle.std.specs.Prelude.{◌≡◌};
 ghost use Rattle.stores.specs.Sources.{sheet_told};
 ghost use Rattle.sheets.specs.Questions.{read_answer, read_memory};

@@ -1,4 +1,6 @@
 // The slot store: each pixel has a slot of bytes for its word.
+#![tactic(auto)]
+
 ghost use Rattle.std.specs.Prelude.{◌≡◌, ◌*◌, ◌<◌, ◌≤◌, vec_len, Decides, MatchResult};
 ghost use Rattle.symbols.specs.declared.refusals.Refusal.TheVariants.{Opening};
 ghost use Rattle.stores.specs.Sources.{fresh};

@@ -1,4 +1,6 @@
 // What keeps the words of a sheet: sources that are asked, and stores that are written too.
+#![tactic(auto)]
+
 ghost use Rattle.std.specs.Prelude.{◌≡◌, ℕ};
 ghost use Rattle.plain.specs.Plain.{Keeps, answer, step, write as written};
 ghost use Rattle.stores.specs.Sources.{Told, LawfulTold, word_answer, word_memory, plain_told, ToldSheetly};

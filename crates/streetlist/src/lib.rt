@@ -1,4 +1,6 @@
 // The street list of any source as text, written into memory that is lent.
+#![tactic(auto)]
+
 ghost use Rattle.std.specs.Prelude.{◌≡◌, ◌≤◌, decimal};
 ghost use Rattle.model.specs.Streets.{street_lines, list_text};
 ghost use Rattle.model.specs.Statements.{NoRoadFails};

@@ -1,4 +1,6 @@
 // Reads a record from standard input and prints its street list, or why there is none.
+#![tactic(auto)]
+
 use printed::tell_streets;
 use std::io::{Read, Write};
 

@@ -1,4 +1,6 @@
 // Each street has two sidewalks.
+#![tactic(auto)]
+
 ghost use Rattle.streets_pair.specs.Statements.{StreetsPair, StreetsHalve};
 
 // Where no road fails, the sidewalks pair off: the two of a street run opposite ways through opposite darts.

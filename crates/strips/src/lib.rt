@@ -1,5 +1,7 @@
 // The strip store: words one behind the other, each symbol one byte. A word is found by counting corners; when its length
 // changes, the words behind it move.
+#![tactic(auto)]
+
 ghost use Rattle.std.specs.Prelude.{◌≡◌, ◌+◌, ◌*◌, ◌<◌, ◌≤◌, length, drop, vec_len, Decides, MatchBool, MatchResult};
 ghost use Rattle.std.proofs.Math.Seq.{paste};
 ghost use Rattle.symbols.specs.declared.refusals.Refusal.TheVariants as refusals;

@@ -1,4 +1,6 @@
 // Symbols of words, roads, records of crossing tables, and refusals.
+#![tactic(auto)]
+
 mod refusals;
 mod roads;
 mod symbols;

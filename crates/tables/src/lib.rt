@@ -1,4 +1,6 @@
 // Crossing tables: whether one means a drawing, and the word of that drawing.
+#![tactic(auto)]
+
 ghost use Rattle.std.specs.Prelude.{◌≡◌, ℕ, ◌+◌, ◌<◌, ◌≤◌, [], length, IfSome, Some, Decides, slice_index};
 ghost use Rattle.rules.specs.Tables.{first_of, size_of, fault, Rising, Flagged, Paired, Uncrossed};
 ghost use Rattle.tables.specs.Nests.{firsts as numbers, Lasts, Goes_on, turn, nests, pile, piled};

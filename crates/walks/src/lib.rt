@@ -1,4 +1,6 @@
 // Walks over any source, and the roots of darts.
+#![tactic(auto)]
+
 mod roots;
 mod steps;
 mod walk;

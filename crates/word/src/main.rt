@@ -1,4 +1,6 @@
 // Reads one word from standard input and prints what it means.
+#![tactic(auto)]
+
 use explain::explain;
 use std::io::Read;
 

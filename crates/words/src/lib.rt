@@ -1,4 +1,6 @@
 // Lawful words of symbols: read from text or from symbols, written as text, and drawn.
+#![tactic(auto)]
+
 ghost use Rattle.std.specs.Prelude.{◌≡◌, ◌≤◌, true, take};
 ghost use Rattle.rules.specs.Words.{lawful};
 
