@@ -4,7 +4,7 @@ use Rattle.stores.specs.Sources.{sheet_told}
 use Rattle.checks.proofs.count.Goals as goal
 
 pub streets-requires : goal.streets-requires
-streets-requires g c = check_free (sheet_told (g.S.Source.told c.args.source.now)) (sym c.in-ok-check.ensures)
+streets-requires g c = check_free (sheet_told (g.S.Source.told c.args.source.now)) (sym c.in_ok-check.ensures)
 
 pub loops-requires : goal.loops-requires
-loops-requires g c = check_free (sheet_told (g.S.Source.told c.args.source.now)) (sym c.in-ok-check.ensures)
+loops-requires g c = check_free (sheet_told (g.S.Source.told c.args.source.now)) (sym c.in_ok-check.ensures)

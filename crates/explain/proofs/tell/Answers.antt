@@ -6,6 +6,6 @@ use Rattle.explain.proofs.tell.Goals as goal
 
 pub loop-i-preserved : goal.loop-i-preserved
 loop-i-preserved c =
-    tell_turn (crossings c.args.d.now) c.len-n.result c.loop-i.i (string_bytes c.loop-i.text) (string_bytes c.push-str.new.self)
-    c.as-str.result.now (meaning (crossings c.args.d.now)) c.in-Some.line (omega arith) c.len-n.ensures c.in-Some.ensures
-    (c.as-str.ensures.value ∙ c.in-ok-shown.ensures.ok) c.in-ok-push-str.ensures.bytes c.loop-i.invariant
+    tell_turn (crossings c.args.d.now) c.len-n.result c.loop-i.i (string_bytes c.loop-i.text) (string_bytes c.push_str.new.self)
+    c.as_str.result.now (meaning (crossings c.args.d.now)) c.in-Some.line (omega arith) c.len-n.ensures c.in-Some.ensures
+    (c.as_str.ensures.value ∙ c.in_ok-shown.ensures.ok) c.in_ok-push_str.ensures.bytes c.loop-i.invariant

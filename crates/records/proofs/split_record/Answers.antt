@@ -7,26 +7,26 @@ returns-then-header c =
     let h = c.in-Some.header in
     c.in-Some.ensures.0 ∙ bad_length h.width h.height h.runs h.rest.now (omega arith)
 
-pub returns-in-default-count-pixels : goal.returns-in-default-count-pixels
-returns-in-default-count-pixels c =
+pub returns-in_default-count_pixels : goal.returns-in_default-count_pixels
+returns-in_default-count_pixels c =
     let h = c.in-Some.header in
-    let s = c.split-at.result in
+    let s = c.split_at.result in
     let fits : 4 * h.runs ≤ length h.rest.now = omega arith in
-    c.in-Some.ensures.0 ∙ bad_runs h.width h.height h.runs (h.width * h.height) h.rest.now s.0.now s.1.now fits c.split-at.ensures.front c.split-at.ensures.back refl c.in-default-count-pixels.ensures
+    c.in-Some.ensures.0 ∙ bad_runs h.width h.height h.runs (h.width * h.height) h.rest.now s.0.now s.1.now fits c.split_at.ensures.front c.split_at.ensures.back refl c.in_default-count_pixels.ensures
 
-pub returns-then-not-has-words : goal.returns-then-not-has-words
-returns-then-not-has-words c =
+pub returns-then-not-has_words : goal.returns-then-not-has_words
+returns-then-not-has_words c =
     let h = c.in-Some.header in
-    let s = c.split-at.result in
+    let s = c.split_at.result in
     let fits : 4 * h.runs ≤ length h.rest.now = omega arith in
-    let r = c.in-Some-count-pixels.ensures in
-    c.in-Some.ensures.0 ∙ bad_words h.width h.height h.runs (h.width * h.height) h.rest.now s.0.now s.1.now fits c.split-at.ensures.front c.split-at.ensures.back refl c.in-Some-count-pixels.words r.0 r.1 (sym c.if-not-has-words.ensures)
+    let r = c.in-Some-count_pixels.ensures in
+    c.in-Some.ensures.0 ∙ bad_words h.width h.height h.runs (h.width * h.height) h.rest.now s.0.now s.1.now fits c.split_at.ensures.front c.split_at.ensures.back refl c.in-Some-count_pixels.words r.0 r.1 (sym c.if-not-has_words.ensures)
 
 pub returns : goal.returns
 returns c =
     let h = c.in-Some.header in
-    let s = c.split-at.result in
+    let s = c.split_at.result in
     let fits : 4 * h.runs ≤ length h.rest.now = omega arith in
-    let r = c.in-Some-count-pixels.ensures in
+    let r = c.in-Some-count_pixels.ensures in
     let e = c.in-Some.ensures in
-    e.0 ∙ good_record h.width h.height h.runs (h.width * h.height) h.rest.now s.0.now s.1.now fits c.split-at.ensures.front c.split-at.ensures.back refl c.in-Some-count-pixels.words e.1 e.2 r.0 r.1 (sym c.if-not-has-words.ensures)
+    e.0 ∙ good_record h.width h.height h.runs (h.width * h.height) h.rest.now s.0.now s.1.now fits c.split_at.ensures.front c.split_at.ensures.back refl c.in-Some-count_pixels.words e.1 e.2 r.0 r.1 (sym c.if-not-has_words.ensures)

@@ -9,5 +9,5 @@ pub returns : goal.returns
 returns g c =
     let t = g.S.Source.told c.args.source.now in
     opened_same (λ e. (e ≡ Short) × (length c.args.memory.now < length (bytes_of (sheet_told t)))) t (g.S.Source.lawful c.args.source.now) _
-    (written (bytes_of (sheet_told t)) c.args.memory.now c.write-record.new.out c.in-ok-n.n c.in-ok-n.ensures.answer c.in-ok-n.ensures.memory)
-    c.open-front.result c.open-front.ensures
+    (written (bytes_of (sheet_told t)) c.args.memory.now c.write_record.new.out c.in_ok-n.n c.in_ok-n.ensures.answer c.in_ok-n.ensures.memory)
+    c.open_front.result c.open_front.ensures

@@ -9,11 +9,11 @@ pub returns : goal.returns
 returns g c =
     let t = g.S.Source.told c.args.source.now in
     let ls = flat_map line_text (street_lines (sheet_told t)) in
-    let a = c.put-width-space-at in
-    let b = c.put-space-height-at in
-    let d = c.put-height-end-at in
-    let e = c.put-line-end-lines-at in
-    let f = c.put-lines in
+    let a = c.put_width-space_at in
+    let b = c.put_space-height_at in
+    let d = c.put_height-end_at in
+    let e = c.put_line_end-lines_at in
+    let f = c.put_lines in
     put_then (decimal t.width) (32 ∷ (decimal t.height ++ (10 ∷ ls))) c.args.out.now a.new.out f.new.out 0 a.result f.result a.ensures.puts
     (put_then (32 ∷ []) (decimal t.height ++ (10 ∷ ls)) a.new.out b.new.out f.new.out a.result b.result f.result b.ensures
     (put_then (decimal t.height) (10 ∷ ls) b.new.out d.new.out f.new.out b.result d.result f.result d.ensures.puts

@@ -8,6 +8,6 @@ pub loop-i-preserved : goal.loop-i-preserved
 loop-i-preserved c =
     let bs = c.args.memory.now in
     let at = c.loop-i.at in
-    let s : c.front-len-at.result ≡ span (drop at bs) = c.front-len-at.ensures.is ∙ ap span (take_rest bs at) in
+    let s : c.front_len-at.result ≡ span (drop at bs) = c.front_len-at.ensures.is ∙ ap span (take_rest bs at) in
     let e : span (drop at bs) ≡ span (drop (lengths (strip_words c.loop-i.i bs)) bs) = ap (λ m. span (drop m bs)) c.loop-i.invariant.0 in
-    (omega (arith, lengths_more c.loop-i.i bs), omega (arith, c.front-len-at.ensures.within, ap length (take_rest bs at), length-drop at bs))
+    (omega (arith, lengths_more c.loop-i.i bs), omega (arith, c.front_len-at.ensures.within, ap length (take_rest bs at), length-drop at bs))

@@ -11,8 +11,8 @@ differ true false n p = absurd (true≢false p)
 differ false true n p = absurd (false≢true p)
 differ false false n p = n
 
-pub offset-bounds-table-j : goal.offset-bounds-table-j
-offset-bounds-table-j c = record { fits = omega (arith, first_le c.args.table.now c.loop-i.i (omega arith)) }
+pub offset_bounds-table-j : goal.offset_bounds-table-j
+offset_bounds-table-j c = record { fits = omega (arith, first_le c.args.table.now c.loop-i.i (omega arith)) }
 
 pub bounds-table-j : goal.bounds-table-j
 bounds-table-j c = omega (arith, first_le c.args.table.now c.loop-i.i (omega arith))
@@ -24,7 +24,7 @@ returns-then-table-j c = (
       let t = c.args.table.now in
       let i = c.loop-i.i in
       let h : i < length t = omega arith in
-      let l : c.first-record-j.result < length t = omega (arith, first_le t i h) in
+      let l : c.first_record-j.result < length t = omega (arith, first_le t i h) in
       differ _ _ c.if-table-j.true
-      (f c.first-record-j.result i l h (ap (λ (x : ℕ). (at t x).group) c.first-record-j.ensures ∙ first_group t i h)),
+      (f c.first_record-j.result i l h (ap (λ (x : ℕ). (at t x).group) c.first_record-j.ensures ∙ first_group t i h)),
 )

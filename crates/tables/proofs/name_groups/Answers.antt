@@ -5,8 +5,8 @@ use Rattle.tables.proofs.name_groups.Goals as goal
 use Rattle.rules.proofs.Tables.{first_le}
 use Rattle.tables.proofs.Stacks.{firsts_at, length_firsts}
 
-pub overflow-cast-firsts : goal.overflow-cast-firsts
-overflow-cast-firsts c = record { fits = omega (arith, first_le c.args.table.now c.loop-i.i (omega arith)) }
+pub overflow_cast-firsts : goal.overflow_cast-firsts
+overflow_cast-firsts c = record { fits = omega (arith, first_le c.args.table.now c.loop-i.i (omega arith)) }
 
 pub returns : goal.returns
 returns c =

@@ -3,9 +3,9 @@ use Rattle.tables.specs.Nests.{pile}
 use Rattle.tables.proofs.nested.Goals as goal
 use Rattle.tables.proofs.Steps.{nests_next, nests_stop, nests_end}
 
-pub returns-in-default : goal.returns-in-default
-returns-in-default c =
-    sym (nests_stop c.loop-k.k (pile c.loop-k.stack c.loop-k.depth) c.args.firsts.now (get_or c.args.more.now c.loop-k.k false) (omega arith) (c.requires.1.1 c.loop-k.k (omega arith)) c.in-default.ensures.same)
+pub returns-in_default : goal.returns-in_default
+returns-in_default c =
+    sym (nests_stop c.loop-k.k (pile c.loop-k.stack c.loop-k.depth) c.args.firsts.now (get_or c.args.more.now c.loop-k.k false) (omega arith) (c.requires.1.1 c.loop-k.k (omega arith)) c.in_default.ensures.same)
     ∙ c.loop-k.invariant.0
 
 pub loop-k-preserved : goal.loop-k-preserved

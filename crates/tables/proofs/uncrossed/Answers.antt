@@ -5,9 +5,9 @@ use Rattle.tables.proofs.uncrossed.Goals as goal
 use Rattle.tables.proofs.Stacks.{stack_decides}
 use Rattle.tables.proofs.Steps.{firsts_low}
 
-pub find-more-requires : goal.find-more-requires
-find-more-requires c = (omega (arith, c.name-groups.auto.firsts), (omega (arith, c.name-groups.auto.firsts), firsts_low c.args.table.now c.name-groups.new.firsts c.name-groups.ensures))
+pub find_more-requires : goal.find_more-requires
+find_more-requires c = (omega (arith, c.name_groups.auto.firsts), (omega (arith, c.name_groups.auto.firsts), firsts_low c.args.table.now c.name_groups.new.firsts c.name_groups.ensures))
 
 pub returns : goal.returns
 returns c =
-    Decides-at _ _ (c.nested.ensures ∙ ap (λ (x : List ℕ). nests 0 (Some []) x) c.name-groups.ensures) (stack_decides c.args.table.now)
+    Decides-at _ _ (c.nested.ensures ∙ ap (λ (x : List ℕ). nests 0 (Some []) x) c.name_groups.ensures) (stack_decides c.args.table.now)

@@ -3,11 +3,11 @@ use Rattle.calls.specs.Kept.{plain_kept}
 use Rattle.calls.proofs.Loading.{blank_now, fits_now}
 use Rattle.calls.proofs.whole.copy_all.Goals as goal
 
-pub write-all-requires : goal.write-all-requires
-write-all-requires g c =
+pub write_all-requires : goal.write_all-requires
+write_all-requires g c =
     let first = plain_kept g.S.Source g.S.Store c.args.store.now in
-    let now = plain_kept g.S.Source g.S.Store c.empty-all.new.store in
+    let now = plain_kept g.S.Source g.S.Store c.empty_all.new.store in
     record {
-      blank = blank_now first now c.empty-all.ensures;
-      fits = fits_now first now (source_told c.args.source.now) c.empty-all.ensures c.requires;
+      blank = blank_now first now c.empty_all.ensures;
+      fits = fits_now first now (source_told c.args.source.now) c.empty_all.ensures c.requires;
     }

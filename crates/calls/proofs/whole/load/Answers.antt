@@ -4,6 +4,6 @@ use Rattle.calls.specs.Kept.{plain_kept}
 use Rattle.calls.proofs.Loading.{accepted_fits}
 use Rattle.calls.proofs.whole.load.Goals as goal
 
-pub copy-all-requires : goal.copy-all-requires
-copy-all-requires g c =
-    accepted_fits (plain_kept g.S.Source g.S.Store c.args.store.now) (source_told c.in-ok-source.source) (sym c.in-ok-judge.ensures)
+pub copy_all-requires : goal.copy_all-requires
+copy_all-requires g c =
+    accepted_fits (plain_kept g.S.Source g.S.Store c.args.store.now) (source_told c.in_ok-source.source) (sym c.in_ok-judge.ensures)

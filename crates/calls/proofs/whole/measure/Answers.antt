@@ -15,9 +15,9 @@ counted-measured-requires c =
     let i = c.loop-i.i in
     let l = record_lawful src.width src.height src.runs.now src.symbols.now in
     let v = c.loop-i.invariant in
-    let h : i < (source_told src).width * (source_told src).height = omega (arith, c.pixel-count-i-end.ensures, c.loop-i-test.true) in
-    let n = next_len c.loop-i.words.source src c.loop-i.words.place.pixel i c.next-word-len.result v.0 v.1 c.next-word-len.ensures.len in
-    omega (arith, count_few (source_told src) l c.args.longest i c.next-word-len.result h n c.loop-i.measured.over c.loop-i.measured.total v.2)
+    let h : i < (source_told src).width * (source_told src).height = omega (arith, c.pixel_count-i-end.ensures, c.loop-i-test.true) in
+    let n = next_len c.loop-i.words.source src c.loop-i.words.place.pixel i c.next_word-len.result v.0 v.1 c.next_word-len.ensures.len in
+    omega (arith, count_few (source_told src) l c.args.longest i c.next_word-len.result h n c.loop-i.measured.over c.loop-i.measured.total v.2)
 
 pub loop-i-preserved : goal.loop-i-preserved
 loop-i-preserved c =
@@ -25,12 +25,12 @@ loop-i-preserved c =
     let i = c.loop-i.i in
     let l = record_lawful src.width src.height src.runs.now src.symbols.now in
     let v = c.loop-i.invariant in
-    let w = c.next-word-len.ensures in
-    let h : i < (source_told src).width * (source_told src).height = omega (arith, c.pixel-count-i-end.ensures, c.loop-i-test.true) in
-    let n = next_len c.loop-i.words.source src c.loop-i.words.place.pixel i c.next-word-len.result v.0 v.1 w.len in (
+    let w = c.next_word-len.ensures in
+    let h : i < (source_told src).width * (source_told src).height = omega (arith, c.pixel_count-i-end.ensures, c.loop-i-test.true) in
+    let n = next_len c.loop-i.words.source src c.loop-i.words.place.pixel i c.next_word-len.result v.0 v.1 w.len in (
       w.source ∙ v.0,
-      next_on c.loop-i.words.source src c.loop-i.words.place.pixel i c.next-word-len.new.self.place.pixel v.0 v.1 h w.pixel,
-      count_on (source_told src) l c.args.longest i c.next-word-len.result h n c.loop-i.measured.over c.loop-i.measured.total c.counted-measured.result.over c.counted-measured.result.total c.counted-measured.ensures.over c.counted-measured.ensures.total v.2,
+      next_on c.loop-i.words.source src c.loop-i.words.place.pixel i c.next_word-len.new.self.place.pixel v.0 v.1 h w.pixel,
+      count_on (source_told src) l c.args.longest i c.next_word-len.result h n c.loop-i.measured.over c.loop-i.measured.total c.counted-measured.result.over c.counted-measured.result.total c.counted-measured.ensures.over c.counted-measured.ensures.total v.2,
       c.type-inv.held,
     )
 
@@ -38,5 +38,5 @@ pub returns : goal.returns
 returns c =
     let src = c.args.source.now in
     let l = record_lawful src.width src.height src.runs.now src.symbols.now in
-    let r = count_all (source_told src) l c.args.longest c.loop-i.i c.loop-i.measured.over c.loop-i.measured.total (omega (arith, c.pixel-count-i-end.ensures, c.loop-i-test.false)) c.loop-i.invariant.2 in
+    let r = count_all (source_told src) l c.args.longest c.loop-i.i c.loop-i.measured.over c.loop-i.measured.total (omega (arith, c.pixel_count-i-end.ensures, c.loop-i-test.false)) c.loop-i.invariant.2 in
     record { over = r.0; total = r.1 }

@@ -23,11 +23,11 @@ loop-pixel-preserved g c =
     let i = c.loop-pixel.pixel in
     let words = c.loop-pixel.words in
     let v = c.loop-pixel.invariant in
-    let w = c.write-next.ensures in
-    let h : i < first.width * first.height = omega (arith, c.pixel-count-pixel-end.ensures, c.loop-pixel-test.true) in (
+    let w = c.write_next.ensures in
+    let h : i < first.width * first.height = omega (arith, c.pixel_count-pixel-end.ensures, c.loop-pixel-test.true) in (
       w.source ∙ v.0,
-      next_on words.source src words.place.pixel i c.write-next.new.words.place.pixel v.0 v.1 (omega (arith, same_pixels first t l c.requires.fits c.requires.blank)) w.pixel,
-      write_more first t l c.requires.fits c.requires.blank now (plain_kept g.S.Source g.S.Store c.write-next.new.store) i (word_at (source_told words.source) words.place.pixel) h v.2
+      next_on words.source src words.place.pixel i c.write_next.new.words.place.pixel v.0 v.1 (omega (arith, same_pixels first t l c.requires.fits c.requires.blank)) w.pixel,
+      write_more first t l c.requires.fits c.requires.blank now (plain_kept g.S.Source g.S.Store c.write_next.new.store) i (word_at (source_told words.source) words.place.pixel) h v.2
           (next_word words.source src words.place.pixel i v.0 v.1) w.after,
     )
 
@@ -38,6 +38,6 @@ returns g c =
     let l = record_lawful src.width src.height src.runs.now src.symbols.now in
     let t = source_told src in
     redraw_all first (plain_kept g.S.Source g.S.Store c.loop-pixel.store) (sheet_told t).drawings c.loop-pixel.pixel
-    (omega (arith, new_length first t l c.requires.fits c.requires.blank, c.pixel-count-pixel-end.ensures, c.loop-pixel-test.false))
-    (omega (arith, old_length first t l c.requires.fits c.requires.blank, c.pixel-count-pixel-end.ensures, c.loop-pixel-test.false))
+    (omega (arith, new_length first t l c.requires.fits c.requires.blank, c.pixel_count-pixel-end.ensures, c.loop-pixel-test.false))
+    (omega (arith, old_length first t l c.requires.fits c.requires.blank, c.pixel_count-pixel-end.ensures, c.loop-pixel-test.false))
     c.loop-pixel.invariant.2

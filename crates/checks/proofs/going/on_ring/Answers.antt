@@ -9,28 +9,28 @@ begins-requires g c =
     let t = g.S.Source.told c.args.source.now in
     ringing_dart (sheet_told t) (told_sheetly t (g.S.Source.lawful c.args.source.now)) c.requires.free c.args.dart c.requires.dart c.loop-dart.at c.loop-dart.invariant
 
-pub ahead-of-at-requires : goal.ahead-of-at-requires
-ahead-of-at-requires g c =
+pub ahead_of-at-requires : goal.ahead_of-at-requires
+ahead_of-at-requires g c =
     let t = g.S.Source.told c.args.source.now in
     record {
       free = c.requires.free;
       dart = ringing_dart (sheet_told t) (told_sheetly t (g.S.Source.lawful c.args.source.now)) c.requires.free c.args.dart c.requires.dart c.loop-dart.at c.loop-dart.invariant;
     }
 
-pub returns-then-same-dart : goal.returns-then-same-dart
-returns-then-same-dart g c =
+pub returns-then-same_dart : goal.returns-then-same_dart
+returns-then-same_dart g c =
     let t = g.S.Source.told c.args.source.now in
-    sym (ringing_yes (sheet_told t) (told_sheetly t (g.S.Source.lawful c.args.source.now)) c.requires.free c.args.dart c.requires.dart c.loop-dart.at c.loop-dart.invariant c.ahead-of-at.result c.ahead-of-at.ensures.is c.loop-dart-test.ensures c.if-same-dart.ensures)
+    sym (ringing_yes (sheet_told t) (told_sheetly t (g.S.Source.lawful c.args.source.now)) c.requires.free c.args.dart c.requires.dart c.loop-dart.at c.loop-dart.invariant c.ahead_of-at.result c.ahead_of-at.ensures.is c.loop-dart-test.ensures c.if-same_dart.ensures)
 
 pub loop-dart-smaller : goal.loop-dart-smaller
 loop-dart-smaller g c =
     let t = g.S.Source.told c.args.source.now in
-    ringing_less (sheet_told t) (told_sheetly t (g.S.Source.lawful c.args.source.now)) c.requires.free c.args.dart c.requires.dart c.loop-dart.at c.loop-dart.invariant c.ahead-of-at.result c.ahead-of-at.ensures.is c.loop-dart-test.ensures c.if-same-dart.ensures
+    ringing_less (sheet_told t) (told_sheetly t (g.S.Source.lawful c.args.source.now)) c.requires.free c.args.dart c.requires.dart c.loop-dart.at c.loop-dart.invariant c.ahead_of-at.result c.ahead_of-at.ensures.is c.loop-dart-test.ensures c.if-same_dart.ensures
 
 pub loop-dart-preserved : goal.loop-dart-preserved
 loop-dart-preserved g c =
     let t = g.S.Source.told c.args.source.now in
-    ringing_more (sheet_told t) (told_sheetly t (g.S.Source.lawful c.args.source.now)) c.requires.free c.args.dart c.requires.dart c.loop-dart.at c.loop-dart.invariant c.ahead-of-at.result c.ahead-of-at.ensures.is c.loop-dart-test.ensures
+    ringing_more (sheet_told t) (told_sheetly t (g.S.Source.lawful c.args.source.now)) c.requires.free c.args.dart c.requires.dart c.loop-dart.at c.loop-dart.invariant c.ahead_of-at.result c.ahead_of-at.ensures.is c.loop-dart-test.ensures
 
 pub returns : goal.returns
 returns g c =

@@ -9,11 +9,11 @@ use Rattle.checks.proofs.roads.check_roads.Goals as goal
 pub returns-in-Some : goal.returns-in-Some
 returns-in-Some g c =
     let s = sheet_told (g.S.Source.told c.args.source.now) in
-    let h : c.loop-pixel.pixel < pixels s = omega (arith, c.pixels-of-pixel-end.ensures, c.loop-pixel-test.true) in
+    let h : c.loop-pixel.pixel < pixels s = omega (arith, c.pixels_of-pixel-end.ensures, c.loop-pixel-test.true) in
     ap (λ (o : Option (ℕ × Road)). road_refused o (Ok tt)) (sym (sides_stop s c.loop-pixel.pixel h c.in-Some.road c.in-Some.ensures) ∙ c.loop-pixel.invariant)
 
 pub loop-pixel-preserved : goal.loop-pixel-preserved
 loop-pixel-preserved g c =
     let s = sheet_told (g.S.Source.told c.args.source.now) in
-    let h : c.loop-pixel.pixel < pixels s = omega (arith, c.pixels-of-pixel-end.ensures, c.loop-pixel-test.true) in
-    sides_more s c.loop-pixel.pixel h c.in-default.ensures ∙ c.loop-pixel.invariant
+    let h : c.loop-pixel.pixel < pixels s = omega (arith, c.pixels_of-pixel-end.ensures, c.loop-pixel-test.true) in
+    sides_more s c.loop-pixel.pixel h c.in_default.ensures ∙ c.loop-pixel.invariant

@@ -2,8 +2,8 @@ use Rattle.std.proofs.Common.{rules}
 use Rattle.drawings.proofs.Sound.{sound}
 use Rattle.drawings.proofs.Drawing.read.Goals as goal
 
-pub invariant-of-result : goal.invariant-of-result
-invariant-of-result c =
+pub invariant_of-result : goal.invariant_of-result
+invariant_of-result c =
     let e = c.in-Some.ensures in
-    let s = sound c.args.symbols.now c.read-records.new.out c.in-Some.len c.if-not-has-shape.ensures e.0 e.1 in
+    let s = sound c.args.symbols.now c.read_records.new.out c.in-Some.len c.if-not-has_shape.ensures e.0 e.1 in
     (s.0, (s.1, tt))

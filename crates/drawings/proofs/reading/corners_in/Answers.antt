@@ -7,11 +7,11 @@ pub loop-s-preserved : goal.loop-s-preserved
 loop-s-preserved c =
     elim c.if-last.branch [
       | then-last w ↦
-          subst (λ (n : ℕ). Counted c.args.symbols.now (c.loop-s.s-index + 1) n c.is-corner-last.result) (sym w.n-is)
-          (count_yes c.args.symbols.now c.loop-s.s-index c.loop-s.n c.loop-s.last c.is-corner-last.result (omega arith) c.is-corner-last.ensures w.if-last.true c.loop-s.invariant)
+          subst (λ (n : ℕ). Counted c.args.symbols.now (c.loop-s.s-index + 1) n c.is_corner-last.result) (sym w.n-is)
+          (count_yes c.args.symbols.now c.loop-s.s-index c.loop-s.n c.loop-s.last c.is_corner-last.result (omega arith) c.is_corner-last.ensures w.if-last.true c.loop-s.invariant)
       | else-last w ↦
-          subst (λ (n : ℕ). Counted c.args.symbols.now (c.loop-s.s-index + 1) n c.is-corner-last.result) (sym w.n-is)
-          (count_no c.args.symbols.now c.loop-s.s-index c.loop-s.n c.loop-s.last c.is-corner-last.result (omega arith) c.is-corner-last.ensures w.if-last.false c.loop-s.invariant)
+          subst (λ (n : ℕ). Counted c.args.symbols.now (c.loop-s.s-index + 1) n c.is_corner-last.result) (sym w.n-is)
+          (count_no c.args.symbols.now c.loop-s.s-index c.loop-s.n c.loop-s.last c.is_corner-last.result (omega arith) c.is_corner-last.ensures w.if-last.false c.loop-s.invariant)
     ]
 
 pub returns : goal.returns

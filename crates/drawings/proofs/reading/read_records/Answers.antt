@@ -8,10 +8,10 @@ loop-i-preserved-in-Corner c =
     read_corner c.args.symbols.now c.loop-i.i c.loop-i.road c.loop-i.k c.loop-i.depth c.loop-i.marks c.loop-i.out
     c.loop-i-test.true c.in-Corner.is c.loop-i.invariant
 
-pub returns-in-default-meet : goal.returns-in-default-meet
-returns-in-default-meet c =
+pub returns-in_default-meet : goal.returns-in_default-meet
+returns-in_default-meet c =
     read_stop c.args.symbols.now c.loop-i.i c.loop-i.road c.loop-i.k c.loop-i.depth c.loop-i.marks c.loop-i.out
-    c.loop-i-test.true c.in-default.not-Corner c.in-default-meet.ensures.same c.loop-i.invariant
+    c.loop-i-test.true c.in_default.not-Corner c.in_default-meet.ensures.same c.loop-i.invariant
 
 pub loop-i-preserved : goal.loop-i-preserved
 loop-i-preserved c =
@@ -20,7 +20,7 @@ loop-i-preserved c =
     (set c.loop-i.out p (record { road = c.loop-i.road; group = c.in-Some.met.0; vertex = c.in-Some.met.1 })))
     (sym c.from.ensures)
     (read_more c.args.symbols.now c.loop-i.i c.loop-i.road c.loop-i.k c.loop-i.depth c.in-Some.met.2 c.in-Some.met.0
-    c.in-Some.met.1 c.loop-i.marks c.meet.new.marks c.loop-i.out c.loop-i-test.true (omega arith) c.in-default.not-Corner
+    c.in-Some.met.1 c.loop-i.marks c.meet.new.marks c.loop-i.out c.loop-i-test.true (omega arith) c.in_default.not-Corner
     c.in-Some.ensures.deep c.meet.auto.marks c.in-Some.ensures.same c.loop-i.invariant)
 
 pub returns-then-depth-ne0 : goal.returns-then-depth-ne0

@@ -13,7 +13,7 @@ returns g c =
     let s = c.args.source.now in
     read_there (g.S.Source.told s) (g.S.Source.lawful s) c.args.pixel (replicate 64 Corner) refl c.in-Some.n c.ask.new.symbols _ c.in-Some.ensures.answer c.in-Some.ensures.memory c.in-Ok.ensures
 
-pub returns-in-default : goal.returns-in-default
-returns-in-default g c =
+pub returns-in_default : goal.returns-in_default
+returns-in_default g c =
     let s = c.args.source.now in
-    absent (g.S.Source.told s) (g.S.Source.lawful s) c.args.pixel (replicate 64 Corner) refl c.in-default.ensures.answer
+    absent (g.S.Source.told s) (g.S.Source.lawful s) c.args.pixel (replicate 64 Corner) refl c.in_default.ensures.answer

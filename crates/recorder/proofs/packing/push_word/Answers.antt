@@ -8,7 +8,7 @@ use Rattle.recorder.proofs.packing.push_word.Goals as goal
 
 pub loop-i-preserved : goal.loop-i-preserved
 loop-i-preserved c =
-    symbols_more c.args.word.now c.loop-i.part c.push-symbol.new.part c.args.n c.loop-i.i Corner c.loop-i-test.true c.push-symbol.ensures ∙ c.loop-i.invariant
+    symbols_more c.args.word.now c.loop-i.part c.push_symbol.new.part c.args.n c.loop-i.i Corner c.loop-i-test.true c.push_symbol.ensures ∙ c.loop-i.invariant
 
 pub returns : goal.returns
 returns c =

@@ -4,8 +4,8 @@ use Rattle.recorder.specs.Packing.{weight, first_bits}
 use Rattle.recorder.proofs.Bits.{bit_fits, bool_bit, first_is}
 use Rattle.recorder.proofs.packing.with_bit.Goals as goal
 
-pub overflow-mul-result-2 : goal.overflow-mul-result-2
-overflow-mul-result-2 c = omega (arith, bit_fits c.args.x c.args.j c.from.result (omega arith) c.requires (omega (arith, bool_bit c.args.bit, bit_lt c.args.bit)))
+pub overflow_mul-result-2 : goal.overflow_mul-result-2
+overflow_mul-result-2 c = omega (arith, bit_fits c.args.x c.args.j c.from.result (omega arith) c.requires (omega (arith, bool_bit c.args.bit, bit_lt c.args.bit)))
 
 pub returns : goal.returns
 returns c =

@@ -16,12 +16,12 @@ fetched n p runs symbols o e = sym (ap or_empty_word e)
 pub returns-in-Some : goal.returns-in-Some
 returns-in-Some c =
     let s = c.args.self.now in
-    let w = c.side-of-width.result in
-    let h = c.side-of-height.result in
+    let w = c.side_of-width.result in
+    let h = c.side_of-height.result in
     let p = c.args.pixel in
     let n = c.in-Some.n in
     let z : n - 0 ≡ n = omega arith in
-    let t = told_word s.width s.height s.runs.now s.symbols.now w h p c.side-of-width.ensures.is c.side-of-height.ensures.is (c.if-not-has-pixel.ensures.0 refl) in
+    let t = told_word s.width s.height s.runs.now s.symbols.now w h p c.side_of-width.ensures.is c.side_of-height.ensures.is (c.if-not-has_pixel.ensures.0 refl) in
     let a = asked_word (record_told s.width s.height s.runs.now s.symbols.now) p c.args.out.now (take (n - 0) c.fetch.new.held) c.fill.result c.fill.new.memory t.0
     (ap (λ (m : ℕ). take m c.fetch.new.held) z ∙ fetched (w * h) p s.runs.now s.symbols.now _ c.in-Some.ensures.1 ∙ t.1)
     c.fill.ensures.answer c.fill.ensures.memory in
@@ -30,10 +30,10 @@ returns-in-Some c =
 pub returns-in-None : goal.returns-in-None
 returns-in-None c =
     let s = c.args.self.now in
-    let w = c.side-of-width.result in
-    let h = c.side-of-height.result in
+    let w = c.side_of-width.result in
+    let h = c.side_of-height.result in
     let p = c.args.pixel in
-    let t = told_word s.width s.height s.runs.now s.symbols.now w h p c.side-of-width.ensures.is c.side-of-height.ensures.is (c.if-not-has-pixel.ensures.0 refl) in
+    let t = told_word s.width s.height s.runs.now s.symbols.now w h p c.side_of-width.ensures.is c.side_of-height.ensures.is (c.if-not-has_pixel.ensures.0 refl) in
     let a = asked_word (record_told s.width s.height s.runs.now s.symbols.now) p c.args.out.now _ c.fill-in-None.result c.fill-in-None.new.memory t.0
     (fetched (w * h) p s.runs.now s.symbols.now _ c.in-None.ensures ∙ t.1)
     c.fill-in-None.ensures.answer c.fill-in-None.ensures.memory in

@@ -13,7 +13,7 @@ returns-then-place-eq0 c =
     let z : 0 ≡ p.inside = omega arith in
     let y : p.inside - 1 ≡ 0 = omega arith in
     record {
-      word = c.put-empty.ensures.is ∙ sym (outside_word c.args.end p.pixel p.low rs bits c.requires.behind)
+      word = c.put_empty.ensures.is ∙ sym (outside_word c.args.end p.pixel p.low rs bits c.requires.behind)
           ∙ ap (λ (i : ℕ). word_ahead c.args.end p.pixel i p.low rs bits p.pixel) z;
       rest = λ k h.
           ap (λ (i : ℕ). word_ahead c.args.end (p.pixel + 1) i p.low rs bits k) y
@@ -28,9 +28,9 @@ returns c =
     let rs = run_list p.runs.now in
     let all = bits_of c.args.symbols.now in
     let bits = drop (3 * p.from) all in
-    let w = c.pass-word.ensures in
+    let w = c.pass_word.ensures in
     record {
       word = w.word ∙ sym (inside_word c.args.end p.pixel p.inside p.low rs bits (omega arith));
-      rest = λ k h. inside_on c.args.end p.pixel p.inside p.low rs bits (drop (3 * c.pass-word.result.from) all) k (omega arith) h w.behind;
+      rest = λ k h. inside_on c.args.end p.pixel p.inside p.low rs bits (drop (3 * c.pass_word.result.from) all) k (omega arith) h w.behind;
       few = w.few;
     }

@@ -9,25 +9,25 @@ use Rattle.records.proofs.order.pass_word.Goals as goal
 whole : (n : ℕ) (held : List Symbol) → lawful (take n held) ≡ lawful (take (n - 0) held)
 whole n held = (let e : n ≡ n - 0 = omega arith in ap (λ (m : ℕ). lawful (take m held)) e)
 
-pub returns-in-default : goal.returns-in-default
-returns-in-default c =
+pub returns-in_default : goal.returns-in_default
+returns-in_default c =
     let bits = drop (3 * c.args.from) (bits_of c.args.symbols.now) in
-    let e = c.in-default.ensures in
+    let e = c.in_default.ensures in
     record {
-      word = c.put-empty.ensures.is ∙ sym (first_none bits e);
+      word = c.put_empty.ensures.is ∙ sym (first_none bits e);
       behind = behind_none bits e;
       few = (omega arith, omega arith);
     }
 
-pub returns-then-not-is-lawful : goal.returns-then-not-is-lawful
-returns-then-not-is-lawful c =
+pub returns-then-not-is_lawful : goal.returns-then-not-is_lawful
+returns-then-not-is_lawful c =
     let n = c.in-Some.len in
     let bits = bits_of c.args.symbols.now in
-    let held = c.read-word.new.out in
+    let held = c.read_word.new.out in
     let o = c.in-Some.ensures in
     let few = o.few in
     record {
-      word = c.put-empty-then-not-is-lawful.ensures.is ∙ sym (first_bad (drop (3 * c.args.from) bits) (drop (3 * (c.args.from + n)) bits) (take n held) o.off (whole n held ∙ sym c.is-lawful.ensures ∙ c.if-not-is-lawful.true));
+      word = c.put_empty-then-not-is_lawful.ensures.is ∙ sym (first_bad (drop (3 * c.args.from) bits) (drop (3 * (c.args.from + n)) bits) (take n held) o.off (whole n held ∙ sym c.is_lawful.ensures ∙ c.if-not-is_lawful.true));
       behind = behind_cut (drop (3 * c.args.from) bits) (drop (3 * (c.args.from + n)) bits) (take n held) o.off;
       few = (omega arith, omega arith);
     }
@@ -36,11 +36,11 @@ pub returns : goal.returns
 returns c =
     let n = c.in-Some.len in
     let bits = bits_of c.args.symbols.now in
-    let held = c.read-word.new.out in
+    let held = c.read_word.new.out in
     let o = c.in-Some.ensures in
     let few = o.few in
     record {
-      word = sym (first_fine (drop (3 * c.args.from) bits) (drop (3 * (c.args.from + n)) bits) (take n held) o.off (whole n held ∙ sym c.is-lawful.ensures ∙ c.if-not-is-lawful.false));
+      word = sym (first_fine (drop (3 * c.args.from) bits) (drop (3 * (c.args.from + n)) bits) (take n held) o.off (whole n held ∙ sym c.is_lawful.ensures ∙ c.if-not-is_lawful.false));
       behind = behind_cut (drop (3 * c.args.from) bits) (drop (3 * (c.args.from + n)) bits) (take n held) o.off;
       few = (omega arith, omega arith);
     }

@@ -17,4 +17,4 @@ returns c =
     let bs = c.args.bytes.now in
     let k = c.args.index in
     let part : List ℕ = take (length bs - 3 * (k / 8)) (drop (3 * (k / 8)) bs) in
-    c.from-code.ensures ∙ ap coded c.code-at.ensures ∙ sym (code_there bs part k (take_rest bs (3 * (k / 8))) (omega arith))
+    c.from_code.ensures ∙ ap coded c.code_at.ensures ∙ sym (code_there bs part k (take_rest bs (3 * (k / 8))) (omega arith))

@@ -25,4 +25,4 @@ loop-front-preserved c =
 
 pub returns : goal.returns
 returns c =
-    sym (seek_all (run_list c.args.bytes.now) (run_list c.loop-front.left.now) c.args.end c.args.pixel c.loop-front.low c.loop-front.before c.in-default.ensures c.loop-front.invariant)
+    sym (seek_all (run_list c.args.bytes.now) (run_list c.loop-front.left.now) c.args.end c.args.pixel c.loop-front.low c.loop-front.before c.in_default.ensures c.loop-front.invariant)

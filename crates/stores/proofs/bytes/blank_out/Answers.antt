@@ -4,10 +4,10 @@ use Rattle.std.proofs.lemmas.List.{take_all, get_or-replicate}
 use Rattle.stores.proofs.Fronts.{put_more, fills_short, fills_well}
 use Rattle.stores.proofs.bytes.blank_out.Goals as goal
 
-pub returns-then-lacks-room : goal.returns-then-lacks-room
-returns-then-lacks-room c =
+pub returns-then-lacks_room : goal.returns-then-lacks_room
+returns-then-lacks_room c =
     let n : length (replicate {A = ℕ} c.args.n 0) ≡ c.args.n = length-replicate c.args.n 0 in
-    (fills_short (replicate c.args.n 0) c.args.bytes.now (omega (arith, c.if-lacks-room.ensures))).holds
+    (fills_short (replicate c.args.n 0) c.args.bytes.now (omega (arith, c.if-lacks_room.ensures))).holds
 
 pub loop-i-preserved : goal.loop-i-preserved
 loop-i-preserved c =
@@ -19,7 +19,7 @@ pub returns : goal.returns
 returns c =
     let n : length (replicate {A = ℕ} c.args.n 0) ≡ c.args.n = length-replicate c.args.n 0 in
     let i : c.loop-i.i ≡ c.args.n = omega arith in
-    (fills_well (replicate c.args.n 0) c.args.bytes.now c.loop-i.bytes c.args.n (sym n) (omega (arith, c.if-lacks-room.ensures))
+    (fills_well (replicate c.args.n 0) c.args.bytes.now c.loop-i.bytes c.args.n (sym n) (omega (arith, c.if-lacks_room.ensures))
     (c.loop-i.invariant
     ∙ ap (λ (x : ℕ). take x (replicate c.args.n 0) ++ drop x c.args.bytes.now) i
     ∙ ap (λ (x : List ℕ). x ++ drop c.args.n c.args.bytes.now) (take_all c.args.n (replicate c.args.n 0) (omega arith)))).holds

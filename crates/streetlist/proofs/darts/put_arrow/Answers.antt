@@ -6,10 +6,10 @@ use Rattle.streetlist.proofs.darts.put_arrow.Goals as goal
 pub returns : goal.returns
 returns c =
     let i = item c.args.dart in
-    let a = c.put-byte-space-at in
-    let b = c.put-space-dart-at in
-    let d = c.put-dart-end in
-    let e = c.put-line-end in
+    let a = c.put_byte-space_at in
+    let b = c.put_space-dart_at in
+    let d = c.put_dart-end in
+    let e = c.put_line_end in
     record {
       puts = put_then (62 ∷ []) (32 ∷ (i ++ (10 ∷ []))) c.args.out.now a.new.out e.new.out c.args.at a.result e.result a.ensures
           (put_then (32 ∷ []) (i ++ (10 ∷ [])) a.new.out b.new.out e.new.out a.result b.result e.result b.ensures

@@ -16,24 +16,24 @@ loop-pixel-init g c =
     let s = sheet_told (g.S.Source.told c.args.source.now) in
     (leads_start (flat_map line_text (street_lines s)) (all_from s 0) c.args.out.now c.args.at (all_start s), omega arith)
 
-pub put-lines-in-end-requires : goal.put-lines-in-end-requires
-put-lines-in-end-requires g c =
+pub put_lines_in-end-requires : goal.put_lines_in-end-requires
+put_lines_in-end-requires g c =
     let t = g.S.Source.told c.args.source.now in
     let few = pixels_few (sheet_told t) (told_sheetly t (g.S.Source.lawful c.args.source.now)) in
-    let h : c.loop-pixel.pixel < pixels (sheet_told t) = omega (arith, c.pixels-of-pixel-end.ensures, c.loop-pixel-test.true) in
+    let h : c.loop-pixel.pixel < pixels (sheet_told t) = omega (arith, c.pixels_of-pixel-end.ensures, c.loop-pixel-test.true) in
     record { free = c.requires.free; pixel = h; early = omega (arith, c.requires.early, c.loop-pixel.invariant.1) }
 
 pub loop-pixel-preserved : goal.loop-pixel-preserved
 loop-pixel-preserved g c =
     let s = sheet_told (g.S.Source.told c.args.source.now) in
     let i = c.loop-pixel.pixel in
-    let h : i < pixels s = omega (arith, c.pixels-of-pixel-end.ensures, c.loop-pixel-test.true) in (
-      leads_more (flat_map line_text (street_lines s)) (all_from s i) (flat_map (begun_line s) (darts_in s i)) (all_from s (i + 1)) c.args.out.now c.loop-pixel.out c.put-lines-in-end.new.out c.args.at c.loop-pixel.end c.put-lines-in-end.result (all_more s i h) c.put-lines-in-end.ensures.puts c.loop-pixel.invariant.0,
-      omega (arith, c.loop-pixel.invariant.1, c.put-lines-in-end.ensures.few),
+    let h : i < pixels s = omega (arith, c.pixels_of-pixel-end.ensures, c.loop-pixel-test.true) in (
+      leads_more (flat_map line_text (street_lines s)) (all_from s i) (flat_map (begun_line s) (darts_in s i)) (all_from s (i + 1)) c.args.out.now c.loop-pixel.out c.put_lines_in-end.new.out c.args.at c.loop-pixel.end c.put_lines_in-end.result (all_more s i h) c.put_lines_in-end.ensures.puts c.loop-pixel.invariant.0,
+      omega (arith, c.loop-pixel.invariant.1, c.put_lines_in-end.ensures.few),
     )
 
 pub returns : goal.returns
 returns g c =
     let s = sheet_told (g.S.Source.told c.args.source.now) in
-    let h : pixels s ≤ c.loop-pixel.pixel = omega (arith, c.pixels-of-pixel-end.ensures, c.loop-pixel-test.false) in
+    let h : pixels s ≤ c.loop-pixel.pixel = omega (arith, c.pixels_of-pixel-end.ensures, c.loop-pixel-test.false) in
     leads_end (flat_map line_text (street_lines s)) (all_from s c.loop-pixel.pixel) c.args.out.now c.loop-pixel.out c.args.at c.loop-pixel.end (all_end s c.loop-pixel.pixel h) c.loop-pixel.invariant.0

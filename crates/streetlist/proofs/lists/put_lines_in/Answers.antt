@@ -12,10 +12,10 @@ pub returns : goal.returns
 returns g c =
     let s = sheet_told (g.S.Source.told c.args.source.now) in
     let p = c.args.pixel in
-    let a = c.put-lines-on-north-at in
-    let b = c.put-lines-on-east-at in
-    let d = c.put-lines-on-south-at in
-    let e = c.put-lines-on in
+    let a = c.put_lines_on-north_at in
+    let b = c.put_lines_on-east_at in
+    let d = c.put_lines_on-south_at in
+    let e = c.put_lines_on in
     let w = on_road s p West in
     let n = on_road s p North in
     let f = on_road s p East in

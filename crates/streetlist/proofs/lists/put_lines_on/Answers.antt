@@ -19,8 +19,8 @@ loop-place-init g c =
     let e : n ≡ count_at s c.args.pixel c.args.road = c.places-place-end.ensures.is ∙ ap (λ (d : Drawing). count_on (road_code c.args.road) d) c.requires.drawn in
     (leads_start (flat_map (begun_line s) (darts_on s c.args.pixel c.args.road)) (on_from s c.args.pixel c.args.road n 0) c.args.out.now c.args.at (on_start s c.args.pixel c.args.road n e), omega arith)
 
-pub put-begun-end-requires : goal.put-begun-end-requires
-put-begun-end-requires g c =
+pub put_begun-end-requires : goal.put_begun-end-requires
+put_begun-end-requires g c =
     let s = sheet_told (g.S.Source.told c.args.source.now) in
     let n = c.places-place-end.result in
     let e : n ≡ count_at s c.args.pixel c.args.road = c.places-place-end.ensures.is ∙ ap (λ (d : Drawing). count_on (road_code c.args.road) d) c.requires.drawn in
@@ -37,8 +37,8 @@ loop-place-preserved g c =
     let q = c.args.road in
     let n = c.places-place-end.result in
     let i = c.loop-place.place in (
-      leads_more (flat_map (begun_line s) (darts_on s p q)) (on_from s p q n i) (begun_line s (dart p q i)) (on_from s p q n (i + 1)) c.args.out.now c.loop-place.out c.put-begun-end.new.out c.args.at c.loop-place.end c.put-begun-end.result (on_more s p q n i c.loop-place-test.true) c.put-begun-end.ensures.puts c.loop-place.invariant.0,
-      omega (arith, c.loop-place.invariant.1, c.put-begun-end.ensures.few),
+      leads_more (flat_map (begun_line s) (darts_on s p q)) (on_from s p q n i) (begun_line s (dart p q i)) (on_from s p q n (i + 1)) c.args.out.now c.loop-place.out c.put_begun-end.new.out c.args.at c.loop-place.end c.put_begun-end.result (on_more s p q n i c.loop-place-test.true) c.put_begun-end.ensures.puts c.loop-place.invariant.0,
+      omega (arith, c.loop-place.invariant.1, c.put_begun-end.ensures.few),
     )
 
 pub returns : goal.returns

@@ -14,7 +14,7 @@ returns-in-Err g c =
 
 pub loop-made-preserved : goal.loop-made-preserved
 loop-made-preserved g c =
-    gone_more (sheet_told (g.S.Source.told c.args.source.now)) c.args.n c.args.walk.now c.loop-made.made c.loop-made.walk c.loop-made-test.true c.loop-made.invariant c.step.new.self c.in-default.ensures.answer c.step.ensures.after
+    gone_more (sheet_told (g.S.Source.told c.args.source.now)) c.args.n c.args.walk.now c.loop-made.made c.loop-made.walk c.loop-made-test.true c.loop-made.invariant c.step.new.self c.in_default.ensures.answer c.step.ensures.after
 
 pub returns : goal.returns
 returns g c =

@@ -3,11 +3,11 @@ use Rattle.symbols.specs.declared.symbols.Symbol.TheVariants.{Corner}
 use Rattle.words.proofs.Holding.{holds_word}
 use Rattle.words.proofs.Word.from_symbols.Goals as goal
 
-pub invariant-of-result : goal.invariant-of-result
-invariant-of-result c =
-    let h = holds_word c.args.symbols.now (replicate 64 Corner) c.fill.new.memory c.in-ok-len.len _ c.in-default.ensures c.in-ok-len.ensures.answer c.in-ok-len.ensures.memory in
+pub invariant_of-result : goal.invariant_of-result
+invariant_of-result c =
+    let h = holds_word c.args.symbols.now (replicate 64 Corner) c.fill.new.memory c.in_ok-len.len _ c.in_default.ensures c.in_ok-len.ensures.answer c.in_ok-len.ensures.memory in
     (h.0, (h.1, tt))
 
 pub returns : goal.returns
 returns c =
-    (holds_word c.args.symbols.now (replicate 64 Corner) c.fill.new.memory c.in-ok-len.len _ c.in-default.ensures c.in-ok-len.ensures.answer c.in-ok-len.ensures.memory).2
+    (holds_word c.args.symbols.now (replicate 64 Corner) c.fill.new.memory c.in_ok-len.len _ c.in_default.ensures c.in_ok-len.ensures.answer c.in_ok-len.ensures.memory).2

@@ -7,9 +7,9 @@ use Rattle.words.proofs.Holding.{spell_more, spell_stop, spell_end, too_long}
 pub returns-then-text-out : goal.returns-then-text-out
 returns-then-text-out c = too_long c.args.text.now (omega arith)
 
-pub returns-in-default : goal.returns-in-default
-returns-in-default c =
-    ap judged_spelt (spell_stop c.args.text.now c.loop-i.i c.loop-i.out (omega arith) (ap lettered (sym c.from.ensures) ∙ sym c.in-default.ensures) c.loop-i.invariant)
+pub returns-in_default : goal.returns-in_default
+returns-in_default c =
+    ap judged_spelt (spell_stop c.args.text.now c.loop-i.i c.loop-i.out (omega arith) (ap lettered (sym c.from.ensures) ∙ sym c.in_default.ensures) c.loop-i.invariant)
 
 pub loop-i-preserved : goal.loop-i-preserved
 loop-i-preserved c =

@@ -6,7 +6,7 @@ use Rattle.words.proofs.showing.write_letters.Goals as goal
 
 pub loop-i-preserved : goal.loop-i-preserved
 loop-i-preserved c =
-    write_more c.args.symbols.now c.loop-i.i c.loop-i.out c.letter-of.result (omega arith) (omega arith) c.letter-of.ensures c.loop-i.invariant
+    write_more c.args.symbols.now c.loop-i.i c.loop-i.out c.letter_of.result (omega arith) (omega arith) c.letter_of.ensures c.loop-i.invariant
 
 pub returns : goal.returns
 returns c =

@@ -18,8 +18,8 @@ returns-then-self-end c =
     let src = s.source in
     let p = s.place.pixel in
     let t = source_told src in
-    let end : ℕ = c.side-of.result * c.side-of-2.result in
-    let e : end ≡ side_or_one src.width * side_or_one src.height = ap (λ (x : ℕ). x * c.side-of-2.result) c.side-of.ensures.is ∙ ap (λ (y : ℕ). side_or_one src.width * y) c.side-of-2.ensures.is in
+    let end : ℕ = c.side_of.result * c.side_of-2.result in
+    let e : end ≡ side_or_one src.width * side_or_one src.height = ap (λ (x : ℕ). x * c.side_of-2.result) c.side_of.ensures.is ∙ ap (λ (y : ℕ). side_or_one src.width * y) c.side_of-2.ensures.is in
     let w : word_at t p ≡ [] = no_word t p end (record_lawful src.width src.height src.runs.now src.symbols.now) e c.if-self-end.true in
     record {
       len = sym (ap length w);
@@ -37,15 +37,15 @@ returns c =
     let pl = s.place in
     let q = c.entered-place.result in
     let all = bits_of src.symbols.now in
-    let end : ℕ = c.side-of.result * c.side-of-2.result in
-    let e : end ≡ side_or_one src.width * side_or_one src.height = ap (λ (x : ℕ). x * c.side-of-2.result) c.side-of.ensures.is ∙ ap (λ (y : ℕ). side_or_one src.width * y) c.side-of-2.ensures.is in
+    let end : ℕ = c.side_of.result * c.side_of-2.result in
+    let e : end ≡ side_or_one src.width * side_or_one src.height = ap (λ (x : ℕ). x * c.side_of-2.result) c.side_of.ensures.is ∙ ap (λ (y : ℕ). side_or_one src.width * y) c.side_of-2.ensures.is in
     let same = c.entered-place.ensures.same in
-    let n = c.pass-pixel-passed.result.len in
-    let held = c.pass-pixel-passed.new.out in
+    let n = c.pass_pixel-passed.result.len in
+    let held = c.pass_pixel-passed.new.out in
     let z : n - 0 ≡ n = omega arith in
-    let told : word_in end (run_list src.runs.now) all pl.pixel ≡ word_at t pl.pixel = (told_word src.width src.height src.runs.now src.symbols.now c.side-of.result c.side-of-2.result pl.pixel c.side-of.ensures.is c.side-of-2.ensures.is c.if-self-end.false).1 in
+    let told : word_in end (run_list src.runs.now) all pl.pixel ≡ word_at t pl.pixel = (told_word src.width src.height src.runs.now src.symbols.now c.side_of.result c.side_of-2.result pl.pixel c.side_of.ensures.is c.side_of-2.ensures.is c.if-self-end.false).1 in
     let is : take n held ≡ word_at t pl.pixel =
-    c.pass-pixel-passed.ensures.word
+    c.pass_pixel-passed.ensures.word
     ∙ ap (λ (k : ℕ). word_ahead end q.pixel q.inside q.low (run_list q.runs.now) (drop (3 * q.from) all) k) same.0
     ∙ same_ahead end pl.pixel pl.inside pl.low pl.from q.pixel q.inside q.low q.from (run_list pl.runs.now) (run_list q.runs.now) all pl.pixel same.1 (c.entered-place.ensures.spots pl.pixel (omega arith))
     ∙ ap (λ (x : ℕ). word_ahead x pl.pixel pl.inside pl.low (run_list pl.runs.now) (drop (3 * pl.from) all) pl.pixel) e
@@ -54,7 +54,7 @@ returns c =
     ∙ told in
     record {
       len = sym (ap length (sym is) ∙ length-take-le n held (omega arith));
-      most = c.pass-pixel-passed.ensures.few.0;
+      most = c.pass_pixel-passed.ensures.few.0;
       memory = c.fill.ensures.memory ∙ ap (λ (m : ℕ). filled (take m held) c.args.out.now) z ∙ ap (λ (x : List Symbol). filled x c.args.out.now) is;
       pixel = gone_on t pl.pixel q.pixel end e c.if-self-end.false same.0;
       source = refl;

@@ -9,7 +9,7 @@ pub returns : goal.returns
 returns c =
     let a = c.args.self.now in
     let b = c.args.other.now in
-    Decides-like c.same-symbols.result
+    Decides-like c.same_symbols.result
     (λ e. ap drawn (sym c.symbols.ensures ∙ e ∙ c.symbols-2.ensures))
     (λ e. c.symbols.ensures ∙ words_told (symbols_of a) (symbols_of b) a.sound b.sound e ∙ sym c.symbols-2.ensures)
-    c.same-symbols.ensures
+    c.same_symbols.ensures
