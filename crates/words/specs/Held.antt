@@ -1,7 +1,16 @@
 -- Words as the code holds them.
 --   symbols_of: the symbols of a word
 --   in_symbols: an answer that holds a word, by its symbols
-use Rattle.std.specs.Prelude.{List, take, Ok, Err, Result}
+--   same_crossing: whether two crossings are the same
+--   draws_same: whether two words draw the same
+--   draws_same_laws: that goes both ways, and along a chain
+use Rattle.std.specs.Prelude.{Bool, List, take, Ok, Err, Result, nat_eq}
+use Rattle.std.specs.Bool.{beq}
+use Rattle.std.specs.Ordering.{on, eq_of_both}
+use Rattle.std.specs.Cmp.{IsPartialEquivalence, partial_equiv_from_equiv, on_equiv, and_equiv, nat_eq_equiv, bool_eq_equiv}
+use Rattle.std.specs.Cmp.Lexicographic.{pointwise, lists_equiv}
+use Rattle.symbols.specs.declared.symbols.Crossing.{Crossing}
+use Rattle.rules.specs.Words.{drawn}
 use Rattle.symbols.specs.declared.refusals.Refusal.{Refusal}
 use Rattle.symbols.specs.declared.symbols.Symbol.{Symbol}
 use Rattle.words.specs.declared.Word.{Word}
@@ -12,3 +21,12 @@ symbols_of w = take w.len w.held
 abbrev pub in_symbols : Result Word Refusal → Result (List Symbol) Refusal
 in_symbols (Ok w) = Ok (symbols_of w)
 in_symbols (Err f) = Err f
+
+abbrev pub same_crossing : Crossing → Crossing → Bool
+same_crossing = eq_of_both (on (λ c. c.road) nat_eq) (eq_of_both (on (λ c. c.group) nat_eq) (on (λ c. c.vertex) beq))
+
+abbrev pub draws_same : Word → Word → Bool
+draws_same = on (λ w. drawn (symbols_of w)) (pointwise same_crossing)
+
+pub draws_same_laws : IsPartialEquivalence draws_same
+draws_same_laws = partial_equiv_from_equiv (on_equiv (λ (w : Word). drawn (symbols_of w)) (lists_equiv (and_equiv (on_equiv (λ (c : Crossing). c.road) nat_eq_equiv) (and_equiv (on_equiv (λ (c : Crossing). c.group) nat_eq_equiv) (on_equiv (λ (c : Crossing). c.vertex) bool_eq_equiv)))))

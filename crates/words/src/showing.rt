@@ -4,9 +4,7 @@ ghost use Rattle.symbols.specs.Refusals.{fill_answer, filled};
 ghost use Rattle.symbols.specs.Symbols.{letter, text as written};
 ghost use Rattle.rules.specs.Words.{drawn};
 ghost use Rattle.drawings.specs.Drawings.{crossings as drawing};
-ghost use Rattle.words.specs.Held.{symbols_of};
-ghost use Rattle.std.specs.Cmp.Rules.{comparing};
-ghost use Rattle.std.proofs.Common.{rules, arith};
+ghost use Rattle.words.specs.Held.{symbols_of, draws_same, draws_same_laws};
 
 use crate::Word;
 use drawings::Drawing;
@@ -65,7 +63,7 @@ impl Word {
     {
         match Drawing::read(self.symbols()) {
             Ok(d) => d,
-            Err(_) => unreachable(),
+            Err(_) => unreachable!(),
         }
     }
 
@@ -99,11 +97,14 @@ impl Word {
 
 // Words are equal where they draw the same. Lawful words do exactly where they have the same symbols.
 impl PartialEq for Word {
-    ghost equals = { λ a b r. Decides r (drawn (symbols_of a) ≡ drawn (symbols_of b)) };
+    ghost eq = { draws_same };
 
-    ghost laws = { first_of (Prim.search (comparing, rules), Prim.grind (arith, Self.row.coded.inj)) };
+    ghost laws = { draws_same_laws };
 
-    fn eq(&self, other: &Word) -> bool {
+    fn eq(&self, other: &Word) -> bool
+        ensures gives { result ≡ draws_same self.now other.now }
+        ensures same { Decides result (drawn (symbols_of self.now) ≡ drawn (symbols_of other.now)) }
+    {
         same_symbols(self.symbols(), other.symbols())
     }
 }

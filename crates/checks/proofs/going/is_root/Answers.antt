@@ -3,7 +3,7 @@ use Rattle.stores.specs.Sources.{sheet_told}
 use Rattle.stores.proofs.Writes.{told_sheetly}
 use Rattle.checks.proofs.Tours.{rooting_start, rooting_dart, rooting_yes, rooting_ahead, rooting_back, rooting_more, rooting_less}
 use Rattle.checks.proofs.going.is_root.Goals as goal
-use Rattle.checks.proofs.going.is_root.Goals.{then-not-no_later-via-then-not-no_later, then-not-no_later-via-else-not-no-later+then-not-no_later-2}
+use Rattle.checks.proofs.going.is_root.Goals.{then-not-no_later-via-then-not-no_later, then-not-no_later-via-else-not-no_later+then-not-no_later-2}
 
 pub loop-dart-init : goal.loop-dart-init
 loop-dart-init g c =
@@ -16,7 +16,7 @@ returns-then-not-no_later g c =
     elim c.then-not-no_later.branch [
       | then-not-no_later-via-then-not-no_later w ↦
           sym (rooting_ahead (sheet_told t) (told_sheetly t (g.S.Source.lawful c.args.source.now)) c.requires.free c.args.dart c.requires.dart c.loop-dart.ahead c.loop-dart.back c.loop-dart.invariant w.if-not-no_later.ensures)
-      | then-not-no_later-via-else-not-no-later+then-not-no_later-2 w ↦
+      | then-not-no_later-via-else-not-no_later+then-not-no_later-2 w ↦
           sym (rooting_back (sheet_told t) (told_sheetly t (g.S.Source.lawful c.args.source.now)) c.requires.free c.args.dart c.requires.dart c.loop-dart.ahead c.loop-dart.back c.loop-dart.invariant w.if-not-no_later-2.ensures)
     ]
 

@@ -17,7 +17,10 @@ invariant_of-result c =
     (c.blank_out.ensures ∙ blank_front (c.pixels_in.result * c.args.slot) c.deref-mut.result.now (omega (arith, o.roomy, c.len.ensures, c.deref-mut.ensures.len, c.pixels_in.ensures, ap (λ (x : ℕ). x * c.args.slot) c.pixels_in.ensures))) c.pixels_in.ensures in
     let size : length (take m.len (c.blank_out.new.bytes ++ drop (length c.blank_out.new.bytes) m.items)) ≡ m.len =
     ap length (take_at c.blank_out.new.bytes (drop (length c.blank_out.new.bytes) m.items) m.len long) ∙ long in
-    (o.sides, ((o.least_slot, o.most_slot, omega (arith, o.roomy, c.len.ensures), blank_lawful c.args.slot k (drop (c.pixels_in.result * c.args.slot) c.deref-mut.result.now) _ o.least_slot e), tt))
+    record {
+      sides = o.sides;
+      sound = (o.least_slot, o.most_slot, omega (arith, o.roomy, c.len.ensures), blank_lawful c.args.slot k (drop (c.pixels_in.result * c.args.slot) c.deref-mut.result.now) _ o.least_slot e);
+    }
 
 pub returns : goal.returns
 returns c =

@@ -34,7 +34,10 @@ invariant_of-self c =
     let b : p < k = c.if-not-has_pixel.ensures.0 refl in
     let j = accepted_word w _ c.in_default.ensures in
     let t = stored s.memory.items c.deref-mut.result.now c.put_word.new.bytes _ s.memory.len s.slot k p w s.memory.ok.0 c.deref-mut.ensures.value b (omega (arith, s.sound.2, s.memory.ok.0)) (c.if-not-fits_slot.ensures.0 refl) j.1 c.put_word.ensures.memory refl in
-    (s.sides, ((s.sound.0, s.sound.1, omega (arith, s.sound.2, t.1), put_lawful s.slot k p w s.memory.items _ t.0 j.1 s.sound.3), tt))
+    record {
+      sides = s.sides;
+      sound = (s.sound.0, s.sound.1, omega (arith, s.sound.2, t.1), put_lawful s.slot k p w s.memory.items _ t.0 j.1 s.sound.3);
+    }
 
 pub returns : goal.returns
 returns c =

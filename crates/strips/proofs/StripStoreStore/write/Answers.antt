@@ -36,7 +36,7 @@ invariant_of-self c =
     let p = stands items c.deref.result.now n i f.at f.old f.tail there c.deref.ensures.value
     (subst (λ (m : ℕ). Spotted c.deref.result.now m i f.at f.old f.tail) c.pixels_in-count.ensures c.find-spot.ensures) in
     let put = rewritten items c.deref-mut.result.now c.replace.new.part w n i f.at f.old f.tail s.memory.len there s.each good.1 s.memory.ok.0 p (omega (arith, c.if-not-has_room.ensures)) c.deref-mut.ensures.value c.replace.ensures in
-    (s.sides, (put.each, tt))
+    record { sides = s.sides; each = put.each }
 
 pub returns : goal.returns
 returns c =

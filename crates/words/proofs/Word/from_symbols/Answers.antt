@@ -6,7 +6,7 @@ use Rattle.words.proofs.Word.from_symbols.Goals as goal
 pub invariant_of-result : goal.invariant_of-result
 invariant_of-result c =
     let h = holds_word c.args.symbols.now (replicate 64 Corner) c.fill.new.memory c.in_ok-len.len _ c.in_default.ensures c.in_ok-len.ensures.answer c.in_ok-len.ensures.memory in
-    (h.0, (h.1, tt))
+    record { within = h.0; sound = h.1 }
 
 pub returns : goal.returns
 returns c =
