@@ -21,8 +21,8 @@ returns-then-not-fits_slot c =
 pub slice_bounds-put_word-end : goal.slice_bounds-put_word-end
 slice_bounds-put_word-end c =
     let s = c.args.self.now in
-    let h : c.args.pixel * s.slot + s.slot ≤ length c.deref-mut.result.now =
-    omega (arith, row_fits c.args.pixel (s.width * s.height) s.slot (c.if-not-has_pixel.ensures.0 refl), s.sound.2, c.deref-mut.ensures.len, s.memory.ok.0) in
+    let h : c.args.pixel * s.slot + s.slot ≤ length c.deref_mut.result.now =
+    omega (arith, row_fits c.args.pixel (s.width * s.height) s.slot (c.if-not-has_pixel.ensures.0 refl), s.sound.2, c.deref_mut.ensures.len, s.memory.ok.0) in
     search rules
 
 pub invariant_of-self : goal.invariant_of-self
@@ -33,7 +33,7 @@ invariant_of-self c =
     let k : ℕ = s.width * s.height in
     let b : p < k = c.if-not-has_pixel.ensures.0 refl in
     let j = accepted_word w _ c.in_default.ensures in
-    let t = stored s.memory.items c.deref-mut.result.now c.put_word.new.bytes _ s.memory.len s.slot k p w s.memory.ok.0 c.deref-mut.ensures.value b (omega (arith, s.sound.2, s.memory.ok.0)) (c.if-not-fits_slot.ensures.0 refl) j.1 c.put_word.ensures.memory refl in
+    let t = stored s.memory.items c.deref_mut.result.now c.put_word.new.bytes _ s.memory.len s.slot k p w s.memory.ok.0 c.deref_mut.ensures.value b (omega (arith, s.sound.2, s.memory.ok.0)) (c.if-not-fits_slot.ensures.0 refl) j.1 c.put_word.ensures.memory refl in
     record {
       sides = s.sides;
       sound = (s.sound.0, s.sound.1, omega (arith, s.sound.2, t.1), put_lawful s.slot k p w s.memory.items _ t.0 j.1 s.sound.3);
@@ -47,7 +47,7 @@ returns c =
     let k : ℕ = s.width * s.height in
     let b : p < k = c.if-not-has_pixel.ensures.0 refl in
     let j = accepted_word w _ c.in_default.ensures in
-    let t = stored s.memory.items c.deref-mut.result.now c.put_word.new.bytes _ s.memory.len s.slot k p w s.memory.ok.0 c.deref-mut.ensures.value b (omega (arith, s.sound.2, s.memory.ok.0)) (c.if-not-fits_slot.ensures.0 refl) j.1 c.put_word.ensures.memory refl in
+    let t = stored s.memory.items c.deref_mut.result.now c.put_word.new.bytes _ s.memory.len s.slot k p w s.memory.ok.0 c.deref_mut.ensures.value b (omega (arith, s.sound.2, s.memory.ok.0)) (c.if-not-fits_slot.ensures.0 refl) j.1 c.put_word.ensures.memory refl in
     let ds : map drawn (slot_words s.slot k _) ≡ set (map drawn (slot_words s.slot k s.memory.items)) p (drawn w) = ap (map drawn) t.0.words ∙ map-set drawn (slot_words s.slot k s.memory.items) p w in
     let r = write_fine (slots_told s.width s.height s.slot s.memory.items) s.slot (k * s.slot) p w b j.0 j.1 (c.if-not-fits_slot.ensures.0 refl)
     (never_full s.width s.height s.slot s.memory.items p w s.sides s.sound j.1 (c.if-not-fits_slot.ensures.0 refl)) _
