@@ -1,4 +1,5 @@
 -- The words of a record passed in order.
+--   ahead_first: before the first pixel all words are to come
 --   spot_low: no run to come holds a pixel before them
 --   not_ahead, enter: no run begins at the present pixel, or one does
 --   outside_word, outside_on: a pixel in no run, and the words behind it
@@ -21,10 +22,17 @@ use Rattle.stores.specs.Sources.{Told, LawfulTold, empty_word, word_at}
 use Rattle.stores.proofs.Fronts.{decoded_encoded}
 use Rattle.records.specs.Stretches.{follows, spot}
 use Rattle.records.specs.Behind.{any_word, skips, word_behind}
-use Rattle.records.specs.Told.{or_empty_word}
+use Rattle.records.specs.Told.{or_empty_word, word_in}
 use Rattle.records.specs.Source.{next_pixel}
 use Rattle.records.specs.Ahead.{begins, raised, spot_ahead, word_ahead, SameBehind}
 use Rattle.records.proofs.Spots.{follows_parts}
+
+pub ahead_first : (end : ℕ) (rs : List Run) (bits : List Bool) (k : ℕ) → word_ahead end 0 0 0 rs bits k ≡ word_in end rs bits k
+ahead_first end rs bits k = rw (le-ltb k (0 + 0) (omega arith)) (by (spot 0 end rs k))
+  where
+    by : (o : Option ℕ) → or_empty_word (and_then (option_map (λ n. 0 + n) o) (λ n. word_behind n bits)) ≡ or_empty_word (and_then o (λ n. word_behind n bits))
+    by None = refl
+    by (Some n) = ap (λ (m : ℕ). or_empty_word (word_behind m bits)) (omega arith)
 
 pub spot_low : (low end : ℕ) (rs : List Run) (k : ℕ) → k < low → spot low end rs k ≡ None
 spot_low low end [] k h = refl
