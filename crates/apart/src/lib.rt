@@ -61,7 +61,7 @@ fn make<S: Source>(source: &S, list: &mut [u8], file: &mut [u8]) -> Made
 
 // Replays a script on a store, and makes its list and its record.
 fn play<S: Store>(store: &mut S, script: &[Call<'_>], list: &mut [u8], file: &mut [u8]) -> Made
-    ensures after { plain_kept S.Source S.Store store.new ≡ run (plain_kept S.Source S.Store store.old) (calls_of script.now) }
+    ensures after { plain_kept S.told S.longest S.total store.new ≡ run (plain_kept S.told S.longest S.total store.old) (calls_of script.now) }
     ensures listed { result.listed ≡ list_answer (sheet_told (S.Source.told store.new)) list.old }
     ensures list { list.new ≡ list_memory (sheet_told (S.Source.told store.new)) list.old }
     ensures recorded { result.recorded ≡ fill_answer (bytes_of (sheet_told (S.Source.told store.new))) file.old }

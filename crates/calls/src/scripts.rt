@@ -21,8 +21,8 @@ pub enum Call<'a> {
 
 // Makes one call.
 pub fn make_call<S: Store>(store: &mut S, call: Call<'_>) -> Result<(), Refusal>
-    ensures answer { result ≡ answer (plain_kept S.Source S.Store store.old) (call_of call.entry) }
-    ensures after { plain_kept S.Source S.Store store.new ≡ step (plain_kept S.Source S.Store store.old) (call_of call.entry) }
+    ensures answer { result ≡ answer (plain_kept S.told S.longest S.total store.old) (call_of call.entry) }
+    ensures after { plain_kept S.told S.longest S.total store.new ≡ step (plain_kept S.told S.longest S.total store.old) (call_of call.entry) }
 {
     match call {
         Call::Put { pixel, text } => put(store, pixel, text),
@@ -36,14 +36,14 @@ pub fn make_call<S: Store>(store: &mut S, call: Call<'_>) -> Result<(), Refusal>
 
 // Makes one call, and goes on where it is refused.
 fn apply<S: Store>(store: &mut S, call: &Call<'_>)
-    ensures { plain_kept S.Source S.Store store.new ≡ step (plain_kept S.Source S.Store store.old) (call_of call.now) }
+    ensures { plain_kept S.told S.longest S.total store.new ≡ step (plain_kept S.told S.longest S.total store.old) (call_of call.now) }
 {
     let _ = make_call(store, *call);
 }
 
 // Makes one call after another, and goes on where one is refused.
 pub fn replay_calls<S: Store>(store: &mut S, script: &[Call<'_>])
-    ensures { plain_kept S.Source S.Store store.new ≡ run (plain_kept S.Source S.Store store.old) (calls_of script.now) }
+    ensures { plain_kept S.told S.longest S.total store.new ≡ run (plain_kept S.told S.longest S.total store.old) (calls_of script.now) }
 {
     for call in script {
         apply(store, call);

@@ -58,14 +58,14 @@ fn measure(source: &RecordSource<'_>, longest: usize) -> Measured
 
 // Whether a store and a record have one size.
 fn has_size<S: Store>(store: &S, source: &RecordSource<'_>) -> bool
-    ensures { result ≡ same_size (plain_kept S.Source S.Store store.now) (sheet_told (source_told source.now)) }
+    ensures { result ≡ same_size (plain_kept S.told S.longest S.total store.now) (sheet_told (source_told source.now)) }
 {
     source.width() == store.width() && source.height() == store.height()
 }
 
 // Whether the words of a record may replace those of a store. Only the new words count.
 fn judge<S: Store>(store: &S, source: &RecordSource<'_>) -> Result<(), Refusal>
-    ensures { result ≡ answered (outcome (plain_kept S.Source S.Store store.now) (replace (Some (sheet_told (source_told source.now))))) }
+    ensures { result ≡ answered (outcome (plain_kept S.told S.longest S.total store.now) (replace (Some (sheet_told (source_told source.now))))) }
 {
     if !has_size(store, source) {
         return Err(Refusal::Opening);
@@ -82,7 +82,7 @@ fn judge<S: Store>(store: &S, source: &RecordSource<'_>) -> Result<(), Refusal>
 
 // Empties every pixel.
 fn empty_all<S: Store>(store: &mut S)
-    ensures { plain_kept S.Source S.Store store.new ≡ emptied (plain_kept S.Source S.Store store.old) }
+    ensures { plain_kept S.told S.longest S.total store.new ≡ emptied (plain_kept S.told S.longest S.total store.old) }
 {
     for pixel in 0..pixel_count(store) {
         let _ = clear(store, pixel);
@@ -91,7 +91,7 @@ fn empty_all<S: Store>(store: &mut S)
 
 // Writes the next word of a record at a pixel.
 fn write_next<S: Store>(store: &mut S, pixel: u32, words: &mut Words<'_>)
-    ensures after { plain_kept S.Source S.Store store.new ≡ step (plain_kept S.Source S.Store store.old) (writing pixel (word_at (source_told words.old.source) words.old.place.pixel)) }
+    ensures after { plain_kept S.told S.longest S.total store.new ≡ step (plain_kept S.told S.longest S.total store.old) (writing pixel (word_at (source_told words.old.source) words.old.place.pixel)) }
     ensures pixel { words.new.place.pixel ≡ next_pixel (source_told words.old.source) words.old.place.pixel }
     ensures source { words.new.source ≡ words.old.source }
 {
@@ -102,9 +102,9 @@ fn write_next<S: Store>(store: &mut S, pixel: u32, words: &mut Words<'_>)
 
 // Writes the words of a record over an empty sheet. Each of them fits.
 fn write_all<S: Store>(store: &mut S, source: &RecordSource<'_>)
-    requires blank { plain_kept S.Source S.Store store.old ≡ emptied (plain_kept S.Source S.Store store.old) }
-    requires fits { Fits (plain_kept S.Source S.Store store.old) (source_told source.now) }
-    ensures { plain_kept S.Source S.Store store.new ≡ left_by (plain_kept S.Source S.Store store.old) (Ok (sheet_told (source_told source.now)).drawings) }
+    requires blank { plain_kept S.told S.longest S.total store.old ≡ emptied (plain_kept S.told S.longest S.total store.old) }
+    requires fits { Fits (plain_kept S.told S.longest S.total store.old) (source_told source.now) }
+    ensures { plain_kept S.told S.longest S.total store.new ≡ left_by (plain_kept S.told S.longest S.total store.old) (Ok (sheet_told (source_told source.now)).drawings) }
 {
     let mut words = source.words();
     for pixel in 0..pixel_count(store) {
@@ -114,8 +114,8 @@ fn write_all<S: Store>(store: &mut S, source: &RecordSource<'_>)
 
 // Replaces all words by those of a record.
 fn copy_all<S: Store>(store: &mut S, source: &RecordSource<'_>)
-    requires { Fits (plain_kept S.Source S.Store store.old) (source_told source.now) }
-    ensures { plain_kept S.Source S.Store store.new ≡ left_by (plain_kept S.Source S.Store store.old) (Ok (sheet_told (source_told source.now)).drawings) }
+    requires { Fits (plain_kept S.told S.longest S.total store.old) (source_told source.now) }
+    ensures { plain_kept S.told S.longest S.total store.new ≡ left_by (plain_kept S.told S.longest S.total store.old) (Ok (sheet_told (source_told source.now)).drawings) }
 {
     empty_all(store);
     write_all(store, source);
@@ -124,8 +124,8 @@ fn copy_all<S: Store>(store: &mut S, source: &RecordSource<'_>)
 // Replaces all words by those of a record. Refused where the bytes are no record, then where it has another size, then
 // where one of its words is over the longest or all are over the total; then nothing changes.
 pub fn load<S: Store>(store: &mut S, bytes: &[u8]) -> Result<(), Refusal>
-    ensures answer { result ≡ answer (plain_kept S.Source S.Store store.old) (loading bytes.now) }
-    ensures after { plain_kept S.Source S.Store store.new ≡ step (plain_kept S.Source S.Store store.old) (loading bytes.now) }
+    ensures answer { result ≡ answer (plain_kept S.told S.longest S.total store.old) (loading bytes.now) }
+    ensures after { plain_kept S.told S.longest S.total store.new ≡ step (plain_kept S.told S.longest S.total store.old) (loading bytes.now) }
 {
     let source = RecordSource::open(bytes)?;
     judge(store, &source)?;

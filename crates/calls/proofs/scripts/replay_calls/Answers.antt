@@ -9,4 +9,4 @@ loop-call-preserved g c =
 
 pub returns : goal.returns
 returns g c =
-    sym (run_all (plain_kept g.S.Source g.S.Store c.loop-call.store) c.args.script.now c.loop-call.call-index c.loop-call-test.false) ∙ c.loop-call.invariant
+    sym (run_all (plain_kept g.S.Source.told g.S.Store.longest g.S.Store.total c.loop-call.store) c.args.script.now c.loop-call.call-index c.loop-call-test.false) ∙ c.loop-call.invariant

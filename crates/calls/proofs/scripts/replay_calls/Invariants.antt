@@ -7,5 +7,5 @@ use Rattle.calls.proofs.scripts.replay_calls.Given as goal
 -- the calls that are left lead where all of them lead
 abbrev pub invariant-loop-call : goal.invariant-loop-call
 invariant-loop-call g l =
-    run (plain_kept g.S.Source g.S.Store l.store) (calls_of (drop l.call-index l.script))
-    ≡ run (plain_kept g.S.Source g.S.Store l.initial.store) (calls_of l.script)
+    run (plain_kept g.S.Source.told g.S.Store.longest g.S.Store.total l.store) (calls_of (drop l.call-index l.script))
+    ≡ run (plain_kept g.S.Source.told g.S.Store.longest g.S.Store.total l.initial.store) (calls_of l.script)

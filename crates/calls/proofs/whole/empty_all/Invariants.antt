@@ -6,5 +6,5 @@ use Rattle.calls.proofs.whole.empty_all.Given as goal
 -- the pixels before this one are empty
 abbrev pub invariant-loop-pixel : goal.invariant-loop-pixel
 invariant-loop-pixel g l =
-    let first = plain_kept g.S.Source g.S.Store l.initial.store in
-    plain_kept g.S.Source g.S.Store l.store ≡ redrawn first (replicate (first.width * first.height) []) l.pixel
+    let first = plain_kept g.S.Source.told g.S.Store.longest g.S.Store.total l.initial.store in
+    plain_kept g.S.Source.told g.S.Store.longest g.S.Store.total l.store ≡ redrawn first (replicate (first.width * first.height) []) l.pixel

@@ -6,4 +6,4 @@ use Rattle.calls.proofs.whole.load.Goals as goal
 
 pub copy_all-requires : goal.copy_all-requires
 copy_all-requires g c =
-    accepted_fits (plain_kept g.S.Source g.S.Store c.args.store.now) (source_told c.in_ok-source.source) (sym c.in_ok-judge.ensures)
+    accepted_fits (plain_kept g.S.Source.told g.S.Store.longest g.S.Store.total c.args.store.now) (source_told c.in_ok-source.source) (sym c.in_ok-judge.ensures)

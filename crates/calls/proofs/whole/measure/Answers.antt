@@ -31,7 +31,7 @@ loop-i-preserved c =
       w.source ∙ v.0,
       next_on c.loop-i.words.source src c.loop-i.words.place.pixel i c.next_word-len.new.self.place.pixel v.0 v.1 h w.pixel,
       count_on (source_told src) l c.args.longest i c.next_word-len.result h n c.loop-i.measured.over c.loop-i.measured.total c.counted-measured.result.over c.counted-measured.result.total c.counted-measured.ensures.over c.counted-measured.ensures.total v.2,
-      c.type-inv.held,
+      c.type_inv.held,
     )
 
 pub returns : goal.returns

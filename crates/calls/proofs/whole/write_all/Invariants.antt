@@ -8,7 +8,7 @@ use Rattle.calls.proofs.whole.write_all.Given as goal
 -- the pixels before this one have the record's words
 abbrev pub invariant-loop-pixel : goal.invariant-loop-pixel
 invariant-loop-pixel g l =
-    let first = plain_kept g.S.Source g.S.Store l.initial.store in
+    let first = plain_kept g.S.Source.told g.S.Store.longest g.S.Store.total l.initial.store in
     (l.words.source ≡ l.source)
     × (l.words.place.pixel ≡ l.pixel)
-    × (plain_kept g.S.Source g.S.Store l.store ≡ redrawn first (sheet_told (source_told l.source)).drawings l.pixel)
+    × (plain_kept g.S.Source.told g.S.Store.longest g.S.Store.total l.store ≡ redrawn first (sheet_told (source_told l.source)).drawings l.pixel)
