@@ -21,7 +21,7 @@ fn ahead_of<S: Source>(source: &S, dart: Dart) -> Dart
 {
     match next(source, dart) {
         Ok(ahead) => ahead,
-        Err(_) => unreachable(),
+        Err(_) => unreachable!(),
     }
 }
 
@@ -34,7 +34,7 @@ fn behind<S: Source>(source: &S, dart: Dart) -> Dart
 {
     match previous(source, dart) {
         Ok(dart) => dart,
-        Err(_) => unreachable(),
+        Err(_) => unreachable!(),
     }
 }
 
@@ -45,7 +45,7 @@ pub(crate) fn begins<S: Source>(source: &S, dart: Dart) -> bool
 {
     match leaves_vertex(source, dart) {
         Ok(begins) => begins,
-        Err(_) => unreachable(),
+        Err(_) => unreachable!(),
     }
 }
 

@@ -45,7 +45,7 @@ fn vertices_at<S: Source>(source: &S, pixel: u32) -> u32
 {
     match drawing_at(source, pixel) {
         Some(drawing) => vertices_in(&drawing),
-        None => unreachable(),
+        None => unreachable!(),
     }
 }
 

@@ -23,7 +23,7 @@ fn fails<S: Source>(source: &S, pixel: u32, road: Road) -> bool
 {
     match road_fails(source, pixel, road) {
         Some(failing) => failing,
-        None => unreachable(),
+        None => unreachable!(),
     }
 }
 

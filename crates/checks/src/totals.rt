@@ -94,7 +94,7 @@ fn total_in<S: Source>(source: &S, tally: Tally, pixel: u32) -> u64
             let south = total_on(source, tally, &drawing, pixel, Road::South);
             west + north + east + south
         }
-        None => unreachable(),
+        None => unreachable!(),
     }
 }
 

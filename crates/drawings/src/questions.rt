@@ -42,7 +42,7 @@ fn known_road(code: u8) -> Road
 {
     match Road::from_code(code) {
         Some(road) => road,
-        None => unreachable(),
+        None => unreachable!(),
     }
 }
 

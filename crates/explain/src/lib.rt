@@ -75,7 +75,7 @@ fn tell(heap: Global, d: &Drawing) -> Result<String, AllocError>
     let mut text = format!(in heap; "crossings {n}\n")?;
     for i in 0..n {
         let Some(line) = line_of(d, i) else {
-            unreachable()
+            unreachable!()
         };
         let shown = format!(in heap; "{line}")?;
         text.push_str(shown.as_str())?;

@@ -36,7 +36,7 @@ pub fn drawing_at<S: Source>(source: &S, pixel: u32) -> Option<Drawing>
     };
     match Drawing::read(&symbols[0..n]) {
         Ok(drawing) => Some(drawing),
-        Err(_) => unreachable(),
+        Err(_) => unreachable!(),
     }
 }
 
@@ -60,7 +60,7 @@ fn leaving(drawing: &Drawing, pixel: u32, crossing: usize) -> Dart
 {
     match drawing.place_of(crossing) {
         Some((road, place)) => dart_at(pixel, road, place),
-        None => unreachable(),
+        None => unreachable!(),
     }
 }
 
@@ -72,7 +72,7 @@ fn crossing_of(drawing: &Drawing, dart: Dart) -> usize
 {
     match drawing.crossing_at(dart.road, dart.place as usize) {
         Some(crossing) => crossing,
-        None => unreachable(),
+        None => unreachable!(),
     }
 }
 
@@ -84,7 +84,7 @@ pub(crate) fn turn_back(drawing: &Drawing, dart: Dart) -> Dart
 {
     match drawing.leaves_at(crossing_of(drawing, dart)) {
         Some(crossing) => leaving(drawing, dart.pixel, crossing),
-        None => unreachable(),
+        None => unreachable!(),
     }
 }
 
@@ -96,7 +96,7 @@ pub(crate) fn turn_on(drawing: &Drawing, dart: Dart) -> Dart
 {
     match drawing.enters_at(crossing_of(drawing, dart)) {
         Some(crossing) => leaving(drawing, dart.pixel, crossing),
-        None => unreachable(),
+        None => unreachable!(),
     }
 }
 
@@ -107,6 +107,6 @@ pub(crate) fn has_vertex(drawing: &Drawing, dart: Dart) -> bool
 {
     match drawing.has_vertex(crossing_of(drawing, dart)) {
         Some(vertex) => vertex,
-        None => unreachable(),
+        None => unreachable!(),
     }
 }

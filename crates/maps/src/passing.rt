@@ -65,7 +65,7 @@ fn far_side<S: Source>(source: &S, pixel: u32, road: Road) -> Option<Drawn>
             pixel: beyond,
             drawing,
         }),
-        None => unreachable(),
+        None => unreachable!(),
     }
 }
 

@@ -106,7 +106,7 @@ fn loaded(heap: Global, bytes: &[u8], width: u16, height: u16) -> Result<SlotSto
 {
     let memory = room(heap, pixels_in(width, height) * 64)?;
     let Ok(store) = SlotStore::open(memory, width, height, 64) else {
-        unreachable()
+        unreachable!()
     };
     let mut store = store;
     let _ = load(&mut store, bytes);

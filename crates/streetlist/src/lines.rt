@@ -32,7 +32,7 @@ fn ahead_of<S: Source>(source: &S, dart: Dart) -> Dart
 {
     match following(source, dart) {
         Some(ahead) => ahead,
-        None => unreachable(),
+        None => unreachable!(),
     }
 }
 
@@ -43,7 +43,7 @@ pub(crate) fn begins<S: Source>(source: &S, dart: Dart) -> bool
 {
     match leaves_vertex(source, dart) {
         Ok(begins) => begins,
-        Err(_) => unreachable(),
+        Err(_) => unreachable!(),
     }
 }
 

@@ -71,7 +71,7 @@ fn put_lines_in<S: Source>(source: &S, out: &mut [u8], at: usize, pixel: u32) ->
             let south_at = put_lines_on(source, out, east_at, &drawing, pixel, Road::East);
             put_lines_on(source, out, south_at, &drawing, pixel, Road::South)
         }
-        None => unreachable(),
+        None => unreachable!(),
     }
 }
 
