@@ -14,7 +14,6 @@ use Rattle.plain.specs.Plain.{Call}
 use Rattle.openings.specs.Limits.{Limits}
 use Rattle.symbols.specs.declared.refusals.Refusal.{Refusal}
 use Rattle.symbols.specs.Refusals.{fill_answer, filled}
-use Rattle.model.specs.Sheets.{Sheet}
 use Rattle.model.specs.Streets.{street_list}
 use Rattle.lists.specs.Statements.{Covered}
 use Rattle.codec.specs.Records.{bytes_of}

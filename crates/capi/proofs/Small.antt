@@ -3,7 +3,7 @@
 --   dart_small: those of a sheet's dart do
 --   given-small: so do those of a dart that is given
 --   code_back, coded_back, codes_tell: codes and darts come back from each other
-use Rattle.std.proofs.Common.{◌≡◌, ℕ, zero, suc, ◌+◌, ◌*◌, ◌/◌, ◌%◌, ◌<◌, ◌≤◌, Bool, true, false, List, [], ◌∷◌, length, get_or, IfOk, Ok, Err, Result, sym, refl, ap, ◌∙◌, arith}
+use Rattle.std.proofs.Common.{◌≡◌, ℕ, zero, suc, ◌*◌, ◌/◌, ◌%◌, ◌<◌, ◌≤◌, true, List, [], ◌∷◌, length, get_or, IfOk, Ok, Err, Result, sym, refl, ap, ◌∙◌, arith}
 use Rattle.std.specs.List.{AllByRecursion as All}
 use Rattle.std.proofs.lemmas.Nat.{mul-le}
 use Rattle.symbols.specs.declared.refusals.Refusal.{Refusal}
@@ -13,7 +13,7 @@ use Rattle.symbols.specs.Symbols.{roads, road_code}
 use Rattle.rules.specs.Words.{Drawing}
 use Rattle.model.specs.declared.darts.Dart.{Dart}
 use Rattle.model.specs.Sheets.{Sheet, Sheetly, IsDrawing, pixels, drawing_at}
-use Rattle.model.specs.Darts.{dart, is_dart, unturn, opposite_of, next_of, previous_of, over, opposite, next, previous}
+use Rattle.model.specs.Darts.{is_dart, unturn, opposite_of, next_of, previous_of, over, opposite, next, previous}
 use Rattle.model.proofs.Inside.{dart_parts}
 use Rattle.model.proofs.Passing.{over_given, next_undone, opposite_undone}
 use Rattle.maps.proofs.Turning.{count_most}

@@ -60,8 +60,7 @@ fn told(answer: Result<Dart, Refusal>) -> i32
 }
 
 // The dart that leaves the entered pixel through the same crossing.
-#[unsafe(no_mangle)]
-pub extern "C" fn plate_opposite(bytes: &[u8], dart: u32) -> i32
+pub fn plate_opposite(bytes: &[u8], dart: u32) -> i32
     ensures { result ≡ asked opposite bytes.now dart }
 {
     match RecordSource::open(bytes) {
@@ -71,8 +70,7 @@ pub extern "C" fn plate_opposite(bytes: &[u8], dart: u32) -> i32
 }
 
 // The dart that leaves the entered pixel by the crossing before the entered one in its group.
-#[unsafe(no_mangle)]
-pub extern "C" fn plate_next(bytes: &[u8], dart: u32) -> i32
+pub fn plate_next(bytes: &[u8], dart: u32) -> i32
     ensures { result ≡ asked next bytes.now dart }
 {
     match RecordSource::open(bytes) {
@@ -82,8 +80,7 @@ pub extern "C" fn plate_next(bytes: &[u8], dart: u32) -> i32
 }
 
 // The dart whose next this one is.
-#[unsafe(no_mangle)]
-pub extern "C" fn plate_previous(bytes: &[u8], dart: u32) -> i32
+pub fn plate_previous(bytes: &[u8], dart: u32) -> i32
     ensures { result ≡ asked previous bytes.now dart }
 {
     match RecordSource::open(bytes) {

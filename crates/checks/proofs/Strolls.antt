@@ -6,11 +6,11 @@
 --   left_less: one step leaves fewer
 --   ring_yes, ring_no: no dart on the way round begins a sidewalk; some does
 --   root_yes, root_no: no dart on the way round is smaller; some is
-use Rattle.std.proofs.Common.{◌≡◌, ℕ, zero, suc, ◌+◌, ◌-◌, ◌<◌, ◌≤◌, Bool, true, false, cond, List, [], ◌∷◌, length, sym, refl, ap, ◌∙◌, subst, inl, inr, ⊎_elim, arith}
+use Rattle.std.proofs.Common.{◌≡◌, ℕ, zero, suc, ◌+◌, ◌<◌, ◌≤◌, Bool, true, false, List, length, sym, refl, ap, ◌∙◌, subst, inl, inr, ⊎_elim, arith}
 use Rattle.std.proofs.lemmas.Bool.{cases_Bool, cases_lt, cases_eq, both_ways}
 use Rattle.orbits.specs.Orbits.{In, last, times, steps, first, System, Lawful, size, turn, loop, ring, sidewalk, line}
-use Rattle.orbits.specs.Statements.{Order, root, Rooted, Walked, Stopped}
-use Rattle.orbits.proofs.Turns.{First, times_next, steps_in, length_steps, next_last, first_is, inside, turned, loop_inside, loop_next, loop_reach, loop_sym}
+use Rattle.orbits.specs.Statements.{Order, root}
+use Rattle.orbits.proofs.Turns.{First, times_next, steps_in, length_steps, next_last, first_is, inside, turned, loop_inside, loop_reach, loop_sym}
 use Rattle.orbits.proofs.Sidewalks.{rings, walked, stopped}
 use Rattle.orbits.proofs.Roots.{rooted}
 

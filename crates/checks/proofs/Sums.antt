@@ -12,7 +12,7 @@ use Rattle.symbols.specs.declared.roads.Road.{Road}
 use Rattle.symbols.specs.declared.roads.Road.TheVariants.{West, North, East, South}
 use Rattle.model.specs.declared.darts.Dart.{Dart}
 use Rattle.model.specs.Sheets.{Sheet, pixels}
-use Rattle.model.specs.Darts.{dart, from_on, darts_on, darts_in, darts}
+use Rattle.model.specs.Darts.{dart, from_on, darts_on, darts_in}
 
 pub from_more : (i n : ℕ) → i < n → from_on i (n - i) ≡ i ∷ from_on (i + 1) (n - (i + 1))
 from_more i n h =

@@ -4,9 +4,9 @@
 --   ringing_dart, ringing_more, ringing_less, ringing_yes, ringing_no: round a loop that may be a ring
 --   Rooting: so many steps from a dart on, none of which is smaller, and as many back
 --   rooting_start, rooting_more, rooting_less, rooting_yes, rooting_ahead, rooting_back: round a loop, both ways
-use Rattle.std.proofs.Common.{◌≡◌, ℕ, zero, suc, ◌+◌, ◌-◌, ◌<◌, ◌≤◌, true, false, length, sym, ap, ◌∙◌, subst, inl, inr, ⊎_elim, arith}
+use Rattle.std.proofs.Common.{◌≡◌, ℕ, zero, suc, ◌+◌, ◌<◌, ◌≤◌, true, false, length, sym, ap, ◌∙◌, subst, inl, inr, ⊎_elim, arith}
 use Rattle.std.proofs.lemmas.Bool.{cases_Bool, cases_eq}
-use Rattle.orbits.specs.Orbits.{In, times, Lawful, loop, ring, sidewalk}
+use Rattle.orbits.specs.Orbits.{In, times, Lawful, loop, sidewalk}
 use Rattle.orbits.specs.Statements.{root}
 use Rattle.orbits.proofs.Turns.{times_next, inside, loop_reach, loop_sym}
 use Rattle.model.specs.declared.darts.Dart.{Dart}

@@ -11,7 +11,7 @@ use Rattle.symbols.specs.declared.symbols.Mark.{Mark}
 use Rattle.symbols.specs.declared.symbols.Mark.TheVariants.{Split, Junction}
 use Rattle.symbols.specs.declared.symbols.Crossing.{Crossing}
 use Rattle.rules.specs.Words.{put, reads, drawing_of, corners, ends, is_corner}
-use Rattle.drawings.specs.Reading.{Meeting, meets, marks_in, meeting}
+use Rattle.drawings.specs.Reading.{Meeting, meets, marks_in}
 
 marks_set : (a : List Mark) (d n : ℕ) (m : Mark) → n ≤ d → marks_in (set a d m) n ≡ marks_in a n
 marks_set a d zero m h = refl

@@ -2,7 +2,7 @@
 --   told_drawn: a word that is shaped and draws something is lawful and draws that
 --   sound: then its crossings are few and have no fault
 --   road_low: crossings without a fault are on the roads 0 to 3
-use Rattle.std.proofs.Common.{◌≡◌, ℕ, ◌<◌, ◌≤◌, Bool, true, false, List, length, take, is_some, Some, None, Option, sym, refl, ap, ◌∙◌, subst, arith}
+use Rattle.std.proofs.Common.{◌≡◌, ℕ, ◌<◌, ◌≤◌, true, false, List, length, take, is_some, Some, None, Option, sym, refl, ap, subst, arith}
 use Rattle.std.proofs.lemmas.List.{length-take-le}
 use Rattle.std.proofs.lemmas.Bool.{and_from, true≢false}
 use Rattle.symbols.specs.declared.refusals.Refusal.{Refusal}

@@ -1,17 +1,16 @@
 -- Histories of calls, told apart by their lists and records.
 --   map_accepted, accepted_map: the sheets are the same map exactly when the same drawings were accepted last
 --   histories_tell: the theorem
-use Rattle.std.proofs.Common.{◌≡◌, ℕ, ◌*◌, ◌<◌, ◌↔◌, List, [], get_or, sym, refl, ap, ◌∙◌, subst, arith}
-use Rattle.rules.specs.Words.{Drawing}
+use Rattle.std.proofs.Common.{◌≡◌, ℕ, ◌*◌, sym, ap, ◌∙◌, arith}
 use Rattle.model.specs.Sheets.{Sheet, Sheetly, pixels, drawing_at}
 use Rattle.lists.specs.Statements.{SameMap}
 use Rattle.lists.proofs.Covering.{lists_cover}
 use Rattle.lists.proofs.Telling.{sheets_same, lists_tell}
 use Rattle.codec.proofs.Theorems.{records_tell}
-use Rattle.plain.specs.Plain.{Keeps, run, opened}
+use Rattle.plain.specs.Plain.{run}
 use Rattle.plain.specs.Statements.{SameLimits}
 use Rattle.plain.proofs.Runs.{runs_keep, last_accepted_there}
-use Rattle.histories.specs.Statements.{History, LawfulHistory, opening, ends_in, accepted_at, SameAccepted, Told, HistoriesTell}
+use Rattle.histories.specs.Statements.{History, LawfulHistory, opening, ends_in, accepted_at, SameAccepted, HistoriesTell}
 
 limits : (h : History) → SameLimits (opening h) (run (opening h) h.calls)
 limits h = runs_keep.2 (opening h) h.calls

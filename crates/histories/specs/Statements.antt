@@ -6,8 +6,7 @@
 --   SameAccepted: two histories have one size and the same drawing accepted last at every pixel
 --   Told: what holds of the sheets, lists and records of two histories
 --   HistoriesTell: the lists and records of two histories tell whether that is so
-use Rattle.std.specs.Prelude.{◌≡◌, ℕ, ◌*◌, ◌<◌, ◌↔◌, List, Ok, Err, Result}
-use Rattle.symbols.specs.declared.refusals.Refusal.{Refusal}
+use Rattle.std.specs.Prelude.{◌≡◌, ℕ, ◌*◌, ◌<◌, ◌↔◌, List, Ok}
 use Rattle.rules.specs.Words.{Drawing}
 use Rattle.model.specs.Sheets.{Sheet, Sheetly, drawing_at}
 use Rattle.model.specs.Streets.{check, street_list}

@@ -2,27 +2,22 @@
 --   lefts_cover: the darts left of the arrows are the sidewalks one after the other
 --   chained_steps: darts that follow one another by next
 --   sidewalks_part, lists_cover: the theorems
-use Rattle.std.proofs.Common.{◌≡◌, ℕ, zero, suc, ◌+◌, ◌<◌, ◌≤◌, Bool, true, false, cond, ◌⊎◌, ◌↔◌, List, [], ◌∷◌, ◌++◌, map, length, Some, None, Ok, Err, Option, Result, sym, refl, ap, ◌∙◌, subst, inl, inr, ⊎_elim, arith}
+use Rattle.std.proofs.Common.{◌≡◌, ℕ, zero, suc, ◌≤◌, true, false, ◌↔◌, List, [], ◌∷◌, ◌++◌, map, sym, refl, ap, subst, inl, inr, arith}
 use Rattle.std.specs.List.{flat_map}
-use Rattle.std.proofs.lemmas.Bool.{true≢false, false≢true, cases_Bool, both_ways}
-use Rattle.symbols.specs.declared.refusals.Refusal.{Refusal}
-use Rattle.symbols.specs.declared.refusals.Refusal.TheVariants.{RoadFails, OnRing}
-use Rattle.symbols.specs.declared.roads.Road.{Road}
-use Rattle.symbols.specs.Symbols.{roads}
+use Rattle.std.proofs.lemmas.Bool.{cases_Bool, both_ways}
 use Rattle.orbits.specs.Orbits as orbit
 use Rattle.orbits.specs.Orbits.{In, Apart, System, Lawful, times, steps, last}
-use Rattle.orbits.specs.Statements.{Walked, Walks, Covers, Rings}
-use Rattle.orbits.proofs.Members.{in_map, map_in, in_joined, kept_in}
+use Rattle.orbits.proofs.Members.{map_in, kept_in}
 use Rattle.orbits.proofs.All as orbits
 use Rattle.model.specs.declared.darts.Dart.{Dart}
-use Rattle.model.specs.Sheets.{Sheet, Sheetly, pixels, fails}
-use Rattle.model.specs.Darts.{is_dart, up_to, darts, next_of, next}
-use Rattle.model.specs.Streets.{leaves_vertex, circles, on_ring, first_that, sides, side_fails, road_refused, ring_refused, check, street_lines}
+use Rattle.model.specs.Sheets.{Sheet, Sheetly}
+use Rattle.model.specs.Darts.{is_dart, darts, next_of}
+use Rattle.model.specs.Streets.{leaves_vertex, circles, on_ring, street_lines}
 use Rattle.model.specs.Statements.{NoRoadFails}
 use Rattle.model.proofs.Passing.{next_given}
-use Rattle.model.proofs.Listing.{in_from, road_in, in_darts, darts_are, circles_lawful}
+use Rattle.model.proofs.Listing.{in_darts, darts_are, circles_lawful}
 use Rattle.model.proofs.Checking.{check_free, check_quiet}
-use Rattle.lists.specs.Statements.{lefts, Chained, Covered, ListsCover, SidewalksPart}
+use Rattle.lists.specs.Statements.{lefts, Chained, ListsCover, SidewalksPart}
 
 lefts_map : (f : Dart → List Dart) (g : Dart → Dart) (bs : List Dart) → lefts (map (λ b. (f b, g b)) bs) ≡ flat_map f bs
 lefts_map f g [] = refl

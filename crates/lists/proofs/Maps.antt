@@ -5,28 +5,26 @@
 --   latest_low: a group's crossing that there is, is found
 --   first_of_group: a crossing is its group's first exactly when the one before it is not smaller
 --   drawings_same: sheets with the same darts, next and starts have the same drawing at each pixel
-use Rattle.std.proofs.Common.{◌≡◌, ℕ, zero, suc, ◌+◌, ◌-◌, ◌*◌, ◌<◌, ◌≤◌, Bool, true, false, cond, eqb, ◌≢◌, ◌⊎◌, ◌↔◌, List, [], ◌∷◌, length, get_or, take, sym, refl, ap, ◌∙◌, subst, inl, inr, arith}
+use Rattle.std.proofs.Common.{◌≡◌, ℕ, zero, suc, ◌+◌, ◌-◌, ◌*◌, ◌<◌, ◌≤◌, true, cond, eqb, List, [], ◌∷◌, length, get_or, take, sym, refl, ap, ◌∙◌, subst, inl, inr, arith}
 use Rattle.std.proofs.lemmas.Bool.{eq-eqb, cases_eq, cases_lt, cond_both}
 use Rattle.symbols.specs.declared.roads.Road.{Road}
 use Rattle.symbols.specs.declared.roads.Road.TheVariants.{West, North, East, South}
 use Rattle.symbols.specs.declared.symbols.Crossing.{Crossing}
-use Rattle.symbols.specs.Symbols.{roads, road_code}
+use Rattle.symbols.specs.Symbols.{roads}
 use Rattle.rules.specs.Words.{Drawing}
-use Rattle.rules.specs.Tables.{at, blank, canonical}
+use Rattle.rules.specs.Tables.{at, canonical}
 use Rattle.rules.specs.Crossings.{group_at, latest, before, count_on, SameDrawing}
-use Rattle.rules.specs.Statements.{Turns}
 use Rattle.rules.proofs.Tables.{leader, first_le, first_group, canonical_at}
 use Rattle.rules.proofs.Counts.{Level, Even, level, sorted, tables_are_told}
 use Rattle.rules.proofs.Turns.{crossings_turn}
-use Rattle.orbits.specs.Orbits.{In}
 use Rattle.orbits.specs.Statements.{Same}
 use Rattle.model.specs.declared.darts.Dart.{Dart}
-use Rattle.model.specs.Sheets.{Sheet, Sheetly, IsDrawing, pixels, drawing_at, beyond, facing, count_at, fails}
-use Rattle.model.specs.Darts.{dart, is_dart, darts, crossing_of, dart_of, turn, opposite_of, next_of}
+use Rattle.model.specs.Sheets.{Sheet, Sheetly, IsDrawing, pixels, drawing_at, beyond, facing, count_at}
+use Rattle.model.specs.Darts.{dart, is_dart, crossing_of, dart_of, turn, opposite_of, next_of}
 use Rattle.model.specs.Streets.{leaves_vertex, circles}
 use Rattle.model.specs.Statements.{NoRoadFails}
 use Rattle.model.proofs.Inside.{drawing_in, dart_parts, dart_from, code_back, crossing_back, leaving_is}
-use Rattle.model.proofs.Passing.{Opposed, opposed}
+use Rattle.model.proofs.Passing.{opposed}
 use Rattle.model.proofs.Listing.{in_darts, darts_are}
 
 counts_le : (s t : Sheet) → ((d : Dart) → is_dart s d ≡ true → is_dart t d ≡ true) → (p : ℕ) (q : Road) → p < pixels s → count_at s p q ≤ count_at t p q

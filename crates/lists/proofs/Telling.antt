@@ -3,14 +3,13 @@
 --   lines_fit: its numbers fit their types
 --   sheets_same: sheets of one size with the same drawing at every pixel are equal
 --   lists_tell: the theorem
-use Rattle.std.proofs.Common.{◌≡◌, ℕ, zero, suc, ◌+◌, ◌*◌, ◌^◌, ◌<◌, ◌≤◌, Bool, true, false, cond, eqb, ◌⊎◌, ◌↔◌, List, [], ◌∷◌, ◌++◌, map, length, get_or, Ok, Err, Result, sym, refl, ap, ◌∙◌, subst, inl, inr, ⊎_elim, mul-le-mul, arith}
+use Rattle.std.proofs.Common.{◌≡◌, ℕ, suc, ◌*◌, ◌≤◌, true, eqb, List, [], ◌∷◌, length, Ok, Err, Result, sym, refl, ap, ◌∙◌, inl, inr, mul-le-mul, arith}
 use Rattle.std.specs.List.{AllByRecursion as All}
 use Rattle.std.proofs.lemmas.List.{ext_get_or}
 use Rattle.std.proofs.lemmas.Bool.{cond_both, both_ways}
 use Rattle.symbols.specs.declared.refusals.Refusal.{Refusal}
 use Rattle.symbols.specs.declared.symbols.Crossing.{Crossing}
 use Rattle.symbols.specs.Symbols.{road_code}
-use Rattle.rules.specs.Words.{Drawing}
 use Rattle.rules.specs.Crossings.{count_on}
 use Rattle.orbits.specs.Orbits as orbit
 use Rattle.orbits.specs.Orbits.{In}
@@ -18,14 +17,13 @@ use Rattle.orbits.specs.Statements.{Same}
 use Rattle.orbits.proofs.Members.{in_joined}
 use Rattle.orbits.proofs.All as orbits
 use Rattle.model.specs.declared.darts.Dart.{Dart}
-use Rattle.model.specs.Sheets.{Sheet, Sheetly, pixels, drawing_at, count_at, fails}
-use Rattle.model.specs.Darts.{is_dart, darts, unturn, previous_of, next, previous}
+use Rattle.model.specs.Sheets.{Sheet, Sheetly, pixels, drawing_at, fails}
+use Rattle.model.specs.Darts.{is_dart, unturn, previous_of, previous}
 use Rattle.model.specs.Streets.{circles, on_ring, check, given_if, street_lines, list_text, street_list}
-use Rattle.model.specs.Statements.{NoRoadFails}
 use Rattle.model.proofs.Inside.{drawing_in, dart_parts}
-use Rattle.model.proofs.Listing.{in_darts, darts_are, circles_lawful}
+use Rattle.model.proofs.Listing.{circles_lawful}
 use Rattle.model.proofs.Passing.{next_undone, over_given}
-use Rattle.lists.specs.Statements.{lefts, Chained, Covered, FitsItem, FitsLine, SameMap, ListsTell}
+use Rattle.lists.specs.Statements.{Chained, FitsItem, FitsLine, SameMap, ListsTell}
 use Rattle.model.proofs.Checking.{check_free, check_quiet}
 use Rattle.lists.proofs.Covering.{lists_cover}
 use Rattle.lists.proofs.Texts.{texts_tell}

@@ -3,7 +3,7 @@
 --   number_split, item_split: equal bytes begin with equal numbers, with equal items
 --   left_split, line_split, lines_same: the same for what is left of an arrow, for lines, for all lines
 --   texts_tell: the theorem
-use Rattle.std.proofs.Common.{◌≡◌, ℕ, zero, suc, ◌+◌, ◌/◌, ◌%◌, ◌^◌, ◌<◌, ◌≤◌, Bool, true, false, cond, ◌&&◌, eqb, ltb, leb, List, [], ◌∷◌, ◌++◌, length, decimal, sym, refl, ap, ◌∙◌, subst, append_assoc, arith, length-append}
+use Rattle.std.proofs.Common.{◌≡◌, ℕ, ◌+◌, ◌%◌, ◌^◌, ◌<◌, Bool, true, false, cond, ◌&&◌, eqb, ltb, leb, List, [], ◌∷◌, ◌++◌, length, decimal, sym, refl, ap, ◌∙◌, subst, append_assoc, arith, length-append}
 use mathlib.Core.List.{head-eq_of_cons-eq, tail-eq_of_cons-eq}
 use Rattle.std.specs.List.{flat_map, AllByRecursion as All}
 use Rattle.std.proofs.lemmas.Bool.{and_from, le-leb, lt-ltb, both_ways}
@@ -12,7 +12,7 @@ use Rattle.symbols.specs.declared.roads.Road.{Road}
 use Rattle.symbols.specs.declared.roads.Road.TheVariants.{West, North, East, South}
 use Rattle.symbols.specs.Symbols.{road_letter}
 use Rattle.model.specs.declared.darts.Dart.{Dart}
-use Rattle.model.specs.Streets.{item, line_text, list_text}
+use Rattle.model.specs.Streets.{item, line_text}
 use Rattle.lists.specs.Statements.{FitsItem, FitsLine, TextsTell}
 
 abbrev is_digit : ℕ → Bool

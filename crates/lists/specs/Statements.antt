@@ -7,9 +7,8 @@
 --   TextsTell: the bytes of a list determine its size and its lines
 --   SameMap: two sheets have one size and the same drawing at every pixel
 --   ListsTell: lists that are given are equal exactly when their sheets are the same map
-use Rattle.std.specs.Prelude.{◌≡◌, ℕ, ◌^◌, ◌<◌, true, false, ◌↔◌, List, [], ◌∷◌, Ok, Err, Result}
+use Rattle.std.specs.Prelude.{◌≡◌, ℕ, ◌^◌, ◌<◌, true, false, ◌↔◌, List, [], ◌∷◌, Ok}
 use Rattle.std.specs.List.{flat_map, AllByRecursion as All}
-use Rattle.symbols.specs.declared.refusals.Refusal.{Refusal}
 use Rattle.orbits.specs.Orbits.{In, Apart}
 use Rattle.model.specs.declared.darts.Dart.{Dart}
 use Rattle.model.specs.Sheets.{Sheet, Sheetly, pixels, drawing_at}

@@ -1,7 +1,7 @@
 -- What it is for the check to pass.
 --   first_none: where nothing passes a test, each fails it
 --   check_free, check_quiet: where the check passes no road fails and no dart is on a ring
-use Rattle.std.proofs.Common.{◌≡◌, ℕ, ◌<◌, Bool, true, false, List, [], ◌∷◌, map, Some, None, Ok, Err, Option, Result, refl, ap, ◌∙◌, inl, inr, ⊎_elim, arith}
+use Rattle.std.proofs.Common.{◌≡◌, ℕ, ◌<◌, Bool, false, List, [], ◌∷◌, map, Some, None, Ok, Option, refl, ap, ◌∙◌, inl, inr, ⊎_elim, arith}
 use Rattle.std.proofs.lemmas.Bool.{cases_Bool}
 use Rattle.symbols.specs.declared.roads.Road.{Road}
 use Rattle.symbols.specs.Symbols.{roads}

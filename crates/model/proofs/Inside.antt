@@ -5,8 +5,7 @@
 --   dart_back, crossing_back: from a dart to its crossing and back, from a crossing to its dart and back
 --   leaving_is: what leaves through a crossing that there is, is a dart
 --   turned: a turn leads to a dart of the same pixel, and the other turn undoes it
-use Rattle.std.proofs.Common.{◌≡◌, ℕ, zero, suc, ◌+◌, ◌-◌, ◌<◌, ◌≤◌, Bool, true, false, cond, ◌&&◌, eqb, ltb, ◌≢◌, List, [], ◌∷◌, length, get_or, take, Some, None, Option, sym, refl, ap, ◌∙◌, subst, inl, inr, arith}
-use Rattle.std.specs.List.{AllByRecursion as All}
+use Rattle.std.proofs.Common.{◌≡◌, ℕ, zero, suc, ◌<◌, ◌≤◌, true, eqb, List, [], ◌∷◌, length, get_or, take, Some, None, Option, sym, refl, ap, ◌∙◌, inl, inr, arith}
 use Rattle.std.proofs.ByRecursion.{All-get_or}
 use Rattle.std.proofs.lemmas.Bool.{and_from, and_parts, lt-ltb, ltb-true, cond-true, cond-false, cases_Bool, cases_lt}
 use Rattle.symbols.specs.declared.roads.Road.{Road}
@@ -14,14 +13,13 @@ use Rattle.symbols.specs.declared.roads.Road.TheVariants.{West, North, East, Sou
 use Rattle.symbols.specs.declared.symbols.Crossing.{Crossing}
 use Rattle.symbols.specs.Symbols.{roads, road_code}
 use Rattle.rules.specs.Words.{Drawing}
-use Rattle.rules.specs.Tables.{at, Means}
+use Rattle.rules.specs.Tables.{at}
 use Rattle.rules.specs.Crossings.{before, after, count_on, crossing_at, one_on}
-use Rattle.rules.specs.Statements.{Turns}
 use Rattle.rules.proofs.Places.{Found, crossing_found, crossing_is, crossing_none}
 use Rattle.rules.proofs.Turns.{crossings_turn}
 use Rattle.model.specs.declared.darts.Dart.{Dart}
 use Rattle.model.specs.Sheets.{Sheet, Sheetly, IsDrawing, pixels, drawing_at, count_at}
-use Rattle.model.specs.Darts.{dart, is_dart, crossing_of, or_first, dart_of, turn, unturn}
+use Rattle.model.specs.Darts.{is_dart, crossing_of, or_first, dart_of, turn, unturn}
 
 pub drawing_in : (s : Sheet) → Sheetly s → (p : ℕ) → p < pixels s → IsDrawing (drawing_at s p)
 drawing_in s k p h = All-get_or IsDrawing s.drawings p [] (omega (arith, k.whole)) k.drawn

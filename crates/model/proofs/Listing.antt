@@ -5,20 +5,20 @@
 --   darts_listed: the theorem
 --   circles_lawful: where no road fails, darts with next are circles
 --   next_returns: going on by next comes back
-use Rattle.std.proofs.Common.{◌≡◌, ℕ, zero, suc, ◌+◌, ◌-◌, ◌<◌, ◌≤◌, Bool, true, false, cond, ◌&&◌, ◌||◌, eqb, ltb, leb, ◌⊎◌, ◌↔◌, List, [], ◌∷◌, ◌++◌, map, length, get_or, Ok, Err, Result, sym, refl, ap, ◌∙◌, subst, inl, inr, ⊎_elim, arith}
+use Rattle.std.proofs.Common.{◌≡◌, ℕ, zero, suc, ◌+◌, ◌<◌, ◌≤◌, Bool, true, false, ◌&&◌, ◌||◌, eqb, ltb, leb, List, [], ◌∷◌, ◌++◌, map, get_or, Ok, sym, refl, ap, ◌∙◌, subst, inl, inr, ⊎_elim, arith}
 use Rattle.std.specs.List.{flat_map}
 use Rattle.std.proofs.lemmas.Bool.{and_from, and_parts, or_left, or_right, eq-eqb, eqb-true, lt-ltb, ltb-true, le-leb, cases_eq}
 use Rattle.std.proofs.lemmas.Bool.Decides.{nat_tests}
 use Rattle.symbols.specs.declared.roads.Road.{Road}
 use Rattle.symbols.specs.declared.roads.Road.TheVariants.{West, North, East, South}
 use Rattle.symbols.specs.Symbols.{roads, road_code}
-use Rattle.orbits.specs.Orbits.{In, Apart, System, Lawful, times}
+use Rattle.orbits.specs.Orbits.{In, Apart, Lawful}
 use Rattle.orbits.specs.Statements.{Ordered, Order}
 use Rattle.orbits.proofs.Members.{in_either, in_map, map_in, in_joined, joined_in, apart_joined}
 use Rattle.orbits.proofs.All.{return}
 use Rattle.model.specs.declared.darts.Dart.{Dart}
 use Rattle.model.specs.Sheets.{Sheet, Sheetly, pixels, count_at}
-use Rattle.model.specs.Darts.{dart, same_dart, dart_le, is_dart, from_on, up_to, darts_on, darts_in, darts, next_of, next}
+use Rattle.model.specs.Darts.{dart, same_dart, dart_le, is_dart, from_on, up_to, darts_on, darts_in, darts, next_of}
 use Rattle.model.specs.Streets.{circles}
 use Rattle.model.specs.Statements.{NoRoadFails, NextReturns, DartsListed}
 use Rattle.model.proofs.Inside.{dart_parts, dart_from, road_back}

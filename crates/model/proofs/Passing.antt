@@ -2,16 +2,14 @@
 --   Opposed: the opposite of a dart over a road that does not fail is a dart over such a road, and leads back
 --   over_given, over_is: what it is for an answer to be given
 --   next_undone, opposite_undone, next_one_to_one: the laws
-use Rattle.std.proofs.Common.{◌≡◌, ℕ, ◌+◌, ◌-◌, ◌<◌, ◌≤◌, Bool, true, false, cond, ◌≢◌, ◌↔◌, Ok, Err, Result, sym, refl, ap, ◌∙◌, subst, inl, inr, arith}
-use Rattle.std.proofs.lemmas.Bool.{true≢false}
-use Rattle.symbols.specs.declared.refusals.Refusal.{Refusal}
+use Rattle.std.proofs.Common.{◌≡◌, ℕ, ◌-◌, Bool, true, false, cond, ◌≢◌, Ok, Err, sym, refl, ap, ◌∙◌, subst, arith}
 use Rattle.symbols.specs.declared.refusals.Refusal.TheVariants.{NoDart, RoadFails}
 use Rattle.symbols.specs.declared.roads.Road.{Road}
 use Rattle.model.specs.declared.darts.Dart.{Dart}
-use Rattle.model.specs.Sheets.{Sheet, Sheetly, pixels, beyond, facing, count_at, fails}
-use Rattle.model.specs.Darts.{dart, is_dart, turn, unturn, opposite_of, next_of, previous_of, over, opposite, next, previous}
+use Rattle.model.specs.Sheets.{Sheet, Sheetly, count_at, fails}
+use Rattle.model.specs.Darts.{is_dart, turn, unturn, opposite_of, next_of, previous_of, over, next, previous}
 use Rattle.model.specs.Statements.{NextUndone, OppositeUndone, NoRoadFails, NextOneToOne}
-use Rattle.model.proofs.Pixels.{facing_twice, Beside, beside, passed, free_back}
+use Rattle.model.proofs.Pixels.{facing_twice, beside, passed, free_back}
 use Rattle.model.proofs.Inside.{dart_parts, dart_from, turned}
 
 pub record Opposed (s : Sheet) (d : Dart) : Type 0 where

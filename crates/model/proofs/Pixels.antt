@@ -4,7 +4,7 @@
 --   beside: that holds of each road that is not on the rim
 --   passed: a road with a crossing that does not fail is not on the rim, and both pixels count it alike
 --   free_back: seen from the other side it does not fail either
-use Rattle.std.proofs.Common.{◌≡◌, ℕ, suc, ◌+◌, ◌-◌, ◌*◌, ◌/◌, ◌%◌, ◌<◌, ◌≤◌, Bool, true, false, cond, not, eqb, ltb, ◌≢◌, sym, refl, ap, ◌∙◌, subst, inl, inr, mul-le-mul_right, mul_comm, add-mul, arith}
+use Rattle.std.proofs.Common.{◌≡◌, ℕ, suc, ◌+◌, ◌-◌, ◌*◌, ◌/◌, ◌%◌, ◌<◌, ◌≤◌, false, not, eqb, ltb, ◌≢◌, sym, refl, ap, ◌∙◌, subst, inl, inr, mul-le-mul_right, mul_comm, add-mul, arith}
 use Rattle.std.proofs.lemmas.Nat.{div-add-mod', mod-mul-add, div_below, mod_below}
 use Rattle.std.proofs.lemmas.Bool.{true≢false, eqb-true, eqb-false, eq-eqb, ne_eqb, lt-ltb, le-ltb, ltb-true, ltb-false, not-false, cases_Bool}
 use Rattle.symbols.specs.declared.roads.Road.{Road}

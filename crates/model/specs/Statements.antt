@@ -5,8 +5,7 @@
 --   NextOneToOne: where no road fails, next leads darts to darts, one-to-one
 --   NextReturns: there, going on by next comes back within as many steps as there are darts
 --   DartsListed: the list of darts has each dart of the sheet once and no other, in order
-use Rattle.std.specs.Prelude.{◌≡◌, ℕ, ◌<◌, ◌≤◌, true, false, ◌≢◌, ◌↔◌, List, length, Ok, Err, Result}
-use Rattle.symbols.specs.declared.refusals.Refusal.{Refusal}
+use Rattle.std.specs.Prelude.{◌≡◌, ℕ, ◌<◌, ◌≤◌, true, false, ◌≢◌, ◌↔◌, length, Ok}
 use Rattle.symbols.specs.declared.roads.Road.{Road}
 use Rattle.orbits.specs.Orbits.{In, Apart, times}
 use Rattle.orbits.specs.Statements.{Ordered}

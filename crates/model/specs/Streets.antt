@@ -18,7 +18,7 @@
 --   goes_round, root: the smallest dart of a dart's loop, by going on until it is home; 11 and 12 as next, at any step
 --   vertices: how many groups with a vertex a drawing has
 --   Counts, count: vertices, streets (half the sidewalks) and loops of a sheet, refused as the check
-use Rattle.std.specs.Prelude.{ℕ, zero, suc, ◌+◌, ◌/◌, Bool, true, false, cond, ◌&&◌, List, [], ◌∷◌, ◌++◌, map, length, Some, None, Ok, Err, decimal, sum, filter, Option, Result, ◌==◌}
+use Rattle.std.specs.Prelude.{ℕ, zero, suc, ◌/◌, Bool, cond, ◌&&◌, List, [], ◌∷◌, ◌++◌, map, length, Some, None, Ok, Err, decimal, sum, filter, Option, Result, ◌==◌}
 use Rattle.std.specs.List.{flat_map}
 use Rattle.symbols.specs.declared.refusals.Refusal.{Refusal}
 use Rattle.symbols.specs.declared.refusals.Refusal.TheVariants.{NoDart, RoadFails, OnRing}
@@ -30,7 +30,7 @@ use Rattle.orbits.specs.Orbits as orbit
 use Rattle.orbits.specs.Statements as loops
 use Rattle.model.specs.declared.darts.Dart.{Dart}
 use Rattle.model.specs.Sheets.{Sheet, pixels, drawing_at, fails}
-use Rattle.model.specs.Darts.{dart, same_dart, dart_le, is_dart, up_to, darts, crossing_of, next_of, next}
+use Rattle.model.specs.Darts.{same_dart, dart_le, is_dart, up_to, darts, crossing_of, next_of, next}
 
 abbrev pub leaves_vertex : Sheet → Dart → Bool
 leaves_vertex s d = (at (drawing_at s d.pixel) (crossing_of s d)).vertex

@@ -4,17 +4,16 @@
 --   slots_within, slots_without: slots that can be opened have limits, and others have none
 --   strip_within, strip_without: the same of a strip
 --   either: what holds in each case of a result, told otherwise
-use Rattle.std.proofs.Common.{◌≡◌, ℕ, zero, suc, ◌+◌, ◌*◌, ◌<◌, ◌≤◌, Bool, true, cond, ◌&&◌, leb, List, [], ◌∷◌, map, length, get_or, drop, replicate, Some, None, Ok, Err, Option, Result, sym, refl, ap, ◌∙◌, subst, inl, inr, arith, MatchResult}
+use Rattle.std.proofs.Common.{◌≡◌, ℕ, zero, suc, ◌+◌, ◌*◌, ◌<◌, ◌≤◌, Bool, true, ◌&&◌, leb, List, [], ◌∷◌, map, length, get_or, drop, replicate, Some, None, Ok, Err, Option, Result, sym, refl, ap, ◌∙◌, inl, inr, arith, MatchResult}
 use Rattle.std.proofs.lemmas.List.{at_drop_more, at_drop_all, get_or-map}
 use Rattle.std.proofs.lemmas.Bool.{leb-true, le-leb, and_parts, and_from, cases_Bool, cond-true, cond-false}
-use Rattle.symbols.specs.declared.symbols.Symbol.{Symbol}
 use Rattle.rules.specs.Words.{Drawing, drawn}
 use Rattle.codec.specs.Records.{side}
 use Rattle.codec.proofs.Records.{side_from, side_parts}
-use Rattle.plain.specs.Plain.{Plain, Call, Opens, opened, step, run}
+use Rattle.plain.specs.Plain.{Plain, Call, Opens, step, run}
 use Rattle.plain.proofs.Runs.{last_accepted_there}
 use Rattle.stores.specs.Sources.{Told, fresh, empty_word, plain_told}
-use Rattle.slots.specs.Slots.{Sides, OpensSlots}
+use Rattle.slots.specs.Slots.{OpensSlots}
 use Rattle.openings.specs.declared.Write.{Write}
 use Rattle.openings.specs.Limits.{Limits, opened_within, slot_limits, strip_limits}
 use Rattle.openings.specs.Replays.{call_of, script, OpenedWithin, Replayed}

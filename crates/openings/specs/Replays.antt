@@ -4,7 +4,7 @@
 --   OpenedWithin: an opening was accepted, and led to the plain sheet of its limits
 --   Replayed: a store that was opened and written: the opening was accepted, the store means the run of the calls from
 --     there, and each of its words draws what was accepted last at its pixel
-use Rattle.std.specs.Prelude.{◌≡◌, ℕ, ◌*◌, ◌<◌, List, [], map, length, Some, Option}
+use Rattle.std.specs.Prelude.{◌≡◌, ℕ, ◌<◌, List, map, length, Some, Option}
 use Rattle.rules.specs.Words.{drawn}
 use Rattle.plain.specs.Plain.{Plain, Call, write, run, last_accepted}
 use Rattle.stores.specs.Sources.{Told, plain_told, word_at}

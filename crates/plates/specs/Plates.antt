@@ -1,7 +1,7 @@
 -- The worked examples.
 --   ring_sheet, street_sheet, pair_sheet, four_sheet: small sheets, by the texts of their words
 --   PlatesShown: what is said of words, tables and these sheets
-use Rattle.std.specs.Prelude.{ℕ, List, [], ◌∷◌, Ok, Err, codes, Result}
+use Rattle.std.specs.Prelude.{ℕ, List, [], ◌∷◌, Ok, Err, codes}
 use Rattle.symbols.specs.declared.roads.Road.TheVariants.{East}
 use Rattle.rules.specs.Statements.{four_on_w}
 use Rattle.plates.specs.Showing.{exits_of, built_text, entered_from, list_of, record_of, count_of, lines_text, AllHold}

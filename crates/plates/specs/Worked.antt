@@ -4,7 +4,7 @@
 --   SheetsWorked: the street list of a sheet, or the refusal with its place
 --   RecordsWorked: the record of a sheet
 --   ReadingsWorked: the street list of the sheet that a record tells, or the refusal
-use Rattle.std.specs.Prelude.{true, false, List, [], ◌∷◌, Ok, Err, codes, Result}
+use Rattle.std.specs.Prelude.{true, false, [], ◌∷◌, Ok, Err, codes}
 use Rattle.rules.specs.Words.{crossing}
 use Rattle.plates.specs.Showing.{exits_of, built_text, list_of, record_of, list_read, lines_text, AllHold}
 

@@ -2,17 +2,17 @@
 --   short_drawn, none_over: no word of a sheet is over 64 symbols
 --   Roomy, Loaded, loads: loading a sheet's record into slots of 64 is accepted, and the slots then have that sheet
 --   roomy: slots of 64 as they are opened
-use Rattle.std.proofs.Common.{◌≡◌, ℕ, ◌+◌, ◌*◌, ◌≤◌, Bool, true, false, cond, ◌&&◌, ◌||◌, eqb, ltb, List, [], ◌∷◌, length, Some, None, Ok, Err, Option, Result, sym, refl, ap, ◌∙◌, subst, arith}
+use Rattle.std.proofs.Common.{◌≡◌, ℕ, ◌*◌, ◌≤◌, Bool, false, cond, eqb, ltb, List, [], ◌∷◌, length, Some, Ok, Err, Option, Result, sym, refl, ap, ◌∙◌, arith}
 use Rattle.std.specs.List.{AllByRecursion as All}
 use Rattle.std.proofs.ByRecursion.{sum_by_le}
 use Rattle.std.proofs.lemmas.Bool.{le-ltb, eq-eqb, or_from, and_from}
 use Rattle.symbols.specs.declared.refusals.Refusal.{Refusal}
 use Rattle.symbols.specs.declared.refusals.Refusal.TheVariants.{Opening, OverLongest, OverTotal}
 use Rattle.rules.specs.Words.{Drawing}
-use Rattle.model.specs.Sheets.{Sheet, Sheetly, IsDrawing, pixels}
+use Rattle.model.specs.Sheets.{Sheet, Sheetly, IsDrawing}
 use Rattle.codec.specs.Records.{sheet_of}
 use Rattle.stores.specs.Sources.{Told, fresh, plain_told}
-use Rattle.plain.specs.Plain.{Plain, load, symbols_in, symbols_of, some_over, limited, same_size, outcome, replace, answer, step, left_by, answered, sheet_in}
+use Rattle.plain.specs.Plain.{Plain, load, symbols_in, symbols_of, some_over, limited, outcome, replace, answer, step, left_by, answered, sheet_in}
 
 short_drawn : (ds : List Drawing) → All IsDrawing ds → All (λ d. symbols_in d ≤ 64) ds
 short_drawn [] a = tt

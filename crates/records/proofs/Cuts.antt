@@ -12,7 +12,7 @@ use Rattle.symbols.specs.declared.symbols.Symbol.{Symbol}
 use Rattle.rules.specs.Words.{is_corner}
 use Rattle.codec.specs.Reading.{and_then, guard}
 use Rattle.codec.specs.Bits.{bits_of}
-use Rattle.codec.specs.Words.{next_symbol, left, cut}
+use Rattle.codec.specs.Words.{left, cut}
 use Rattle.codec.proofs.Reading.{none_some}
 use Rattle.codec.proofs.Bits.{bits_of_length}
 use Rattle.records.specs.Packed.{symbol_at}

@@ -12,11 +12,11 @@
 --   told_by: what is told of a size, runs and bits
 --   bad_length, bad_runs, bad_words, good_record: what a header with the bytes behind it is read as
 --   told_word: the word that is told of a pixel
-use Rattle.std.proofs.Common.{◌≡◌, ℕ, zero, suc, ◌+◌, ◌-◌, ◌*◌, ◌<◌, ◌≤◌, Bool, true, false, cond, ◌&&◌, eqb, ltb, leb, List, [], ◌∷◌, map, length, get_or, take, drop, Some, None, Option, sym, refl, ap, ◌∙◌, subst, inl, inr, zero-add, arith}
+use Rattle.std.proofs.Common.{◌≡◌, ℕ, zero, suc, ◌+◌, ◌-◌, ◌*◌, ◌<◌, ◌≤◌, Bool, true, false, cond, ◌&&◌, eqb, ltb, leb, List, [], ◌∷◌, map, length, get_or, take, drop, Some, None, Option, sym, refl, ap, ◌∙◌, zero-add, arith}
 use lib.ListN.{length-map}
 use Rattle.std.specs.Option.{option_map}
 use Rattle.std.proofs.lemmas.List.{ext_get_or, get_or-map}
-use Rattle.std.proofs.lemmas.Bool.{true≢false, and_parts, and_from, and_left, or_from, eq-eqb, eqb-true, le-leb, lt-ltb, lt-leb}
+use Rattle.std.proofs.lemmas.Bool.{true≢false, and_parts, and_from, and_left, eq-eqb, eqb-true, le-leb, lt-leb}
 use Rattle.symbols.specs.declared.symbols.Symbol.{Symbol}
 use Rattle.rules.specs.Words.{Drawing, drawn, lawful}
 use Rattle.model.specs.Sheets.{Sheet}
@@ -27,10 +27,10 @@ use Rattle.codec.specs.Words.{cut, shown, read_drawings}
 use Rattle.codec.specs.Runs.{Run, run, extend, runs, within, covers, sound, Sound}
 use Rattle.codec.specs.Records.{read_runs, read_rest, side, sheet_of}
 use Rattle.codec.specs.Loops.{rank}
-use Rattle.codec.proofs.Reading.{none_some, some_inj, after, allowed}
+use Rattle.codec.proofs.Reading.{some_inj, after, allowed}
 use Rattle.codec.proofs.Words.{drawings_stood}
 use Rattle.codec.proofs.Runs.{sound_parts, within_here, within_one, within_more, runs_sound, runs_covers, covers_length}
-use Rattle.stores.specs.Sources.{Told, sheet_told, empty_word, word_at}
+use Rattle.stores.specs.Sources.{sheet_told, word_at}
 use Rattle.stores.specs.Numbered.{word_numbered, words_numbered}
 use Rattle.records.specs.Stretches.{run_list, run_pixels, follows, spot}
 use Rattle.records.specs.Behind.{in_run, any_word, skips, padded, all_words, word_behind}

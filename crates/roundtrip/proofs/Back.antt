@@ -3,14 +3,14 @@
 --   told_same: what is told comes back from its sheet
 --   opened_same: a record source over the record of what is told tells the same
 --   written: the bytes that an accepted answer leaves at the front of memory
-use Rattle.std.proofs.Common.{◌≡◌, ℕ, ◌<◌, Bool, true, false, cond, ltb, List, [], ◌∷◌, ◌++◌, map, length, take, drop, Some, None, Ok, Err, Option, Result, sym, refl, ap, ◌∙◌, arith, MatchResult}
+use Rattle.std.proofs.Common.{◌≡◌, ℕ, Bool, true, false, cond, ltb, List, [], ◌∷◌, ◌++◌, map, length, take, drop, Some, None, Ok, Err, Result, sym, refl, ap, ◌∙◌, arith, MatchResult}
 use Rattle.std.specs.List.{AllByRecursion as All}
 use Rattle.std.proofs.lemmas.List.{take_at}
 use Rattle.symbols.specs.declared.refusals.Refusal.{Refusal}
 use Rattle.symbols.specs.declared.refusals.Refusal.TheVariants.{Short, BadRecord}
 use Rattle.symbols.specs.declared.symbols.Symbol.{Symbol}
 use Rattle.symbols.specs.Refusals.{fill_answer, filled}
-use Rattle.rules.specs.Words.{Drawing, Lawful, drawn}
+use Rattle.rules.specs.Words.{Lawful, drawn}
 use Rattle.rules.specs.Tables.{word_of}
 use Rattle.model.specs.Sheets.{Sheet}
 use Rattle.codec.specs.Records.{bytes_of, sheet_of}

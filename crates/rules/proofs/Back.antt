@@ -1,11 +1,10 @@
 -- Reading back: a tidy drawing, as a table, means itself.
 --   itself: a group's first crossing is of the group
 --   table_means, table_draws: as a table it means a drawing, which is itself
-use Rattle.std.proofs.Common.{◌≡◌, ℕ, zero, suc, ◌+◌, ◌-◌, ◌<◌, ◌≤◌, Bool, true, false, cond, ◌||◌, eqb, ◌≢◌, ◌⊎◌, List, [], ◌∷◌, map, length, get_or, drop, sym, refl, ap, ◌∙◌, subst, inl, inr, arith}
-use Rattle.std.specs.List.{AllByRecursion as All}
-use Rattle.std.proofs.lemmas.List.{length-drop, length-map, get_or-drop, get_or-map, ext_get_or}
+use Rattle.std.proofs.Common.{◌≡◌, ℕ, zero, suc, ◌+◌, ◌-◌, ◌<◌, ◌≤◌, Bool, true, false, eqb, ◌≢◌, List, [], ◌∷◌, length, get_or, drop, sym, refl, ap, ◌∙◌, subst, inl, inr, arith}
+use Rattle.std.proofs.lemmas.List.{length-drop, get_or-drop, ext_get_or}
 use Rattle.std.proofs.ByRecursion.{All-get_or}
-use Rattle.std.proofs.lemmas.Bool.{true≢false, false≢true, eqb-true, cases_eq, cases_lt, cases_Bool, cases_order}
+use Rattle.std.proofs.lemmas.Bool.{true≢false, eqb-true, cases_eq, cases_lt, cases_Bool, cases_order}
 use Rattle.symbols.specs.declared.symbols.Crossing.{Crossing}
 use Rattle.rules.specs.Tables.{at, blank, size_of, mentions, Means, first_of, named, canonical}
 use Rattle.rules.specs.Crossings.{group_at}

@@ -1,15 +1,15 @@
 -- Words, tables and drawings answer each other: what the contracts name.
-use Rattle.std.proofs.Common.{◌≡◌, ℕ, ◌+◌, ◌<◌, ◌≤◌, Bool, true, false, cond, ltb, ◌↔◌, List, [], ◌∷◌, length, is_some, Some, None, Ok, Err, Option, Result, sym, refl, ap, ◌∙◌, subst, inl, inr, arith}
+use Rattle.std.proofs.Common.{◌≡◌, ℕ, ◌+◌, ◌<◌, ◌≤◌, List, length, is_some, Some, None, Ok, Option, sym, refl, ap, ◌∙◌, subst, inl, inr, arith}
 use Rattle.std.proofs.lemmas.Bool.{and_parts, lt-ltb, le-ltb, cases_lt}
 use Rattle.symbols.specs.declared.refusals.Refusal.{Refusal}
 use Rattle.symbols.specs.declared.symbols.Crossing.{Crossing}
 use Rattle.symbols.specs.declared.symbols.Symbol.{Symbol}
 use Rattle.rules.specs.Words.{Lawful, shaped, drawing_of, drawn, judged}
-use Rattle.rules.specs.Tables.{Means, fault, canonical, word_of, build_word, unless}
-use Rattle.rules.specs.Crossings.{SameDrawing, before, after, where_in, leaves_at, enters_at}
-use Rattle.rules.specs.Statements.{WordsComeBack, TablesComeBack, DrawingsAreTold, StepsUndo, Turns, Examples}
+use Rattle.rules.specs.Tables.{Means, fault, canonical, word_of, unless}
+use Rattle.rules.specs.Crossings.{before, after, where_in}
+use Rattle.rules.specs.Statements.{WordsComeBack, TablesComeBack, DrawingsAreTold, StepsUndo, Examples}
 use Rattle.rules.proofs.Marks.{Tidy}
-use Rattle.rules.proofs.Words.{Parts, parts, comes_back, draws_tidy}
+use Rattle.rules.proofs.Words.{parts, comes_back, draws_tidy}
 use Rattle.rules.proofs.Drawings.{tidy_comes_back, tidy_lawful, length_writes}
 use Rattle.rules.proofs.Tables.{table_tidy, length_canonical}
 use Rattle.rules.proofs.Back.{table_means, table_draws}

@@ -2,12 +2,12 @@
 --   Sorted: the roads rise from a road on, to 3
 --   Level, Even: as many crossings on the same roads; as many on each road
 --   tables_are_told: tables with rising roads mean one drawing exactly when it is the same in counts, groups and vertices
-use Rattle.std.proofs.Common.{◌≡◌, ℕ, zero, suc, ◌+◌, ◌<◌, ◌≤◌, Bool, true, false, cond, eqb, ◌≢◌, ◌⊎◌, ◌↔◌, List, [], ◌∷◌, length, sym, refl, ap, ◌∙◌, inl, inr, arith}
+use Rattle.std.proofs.Common.{◌≡◌, ℕ, zero, suc, ◌<◌, ◌≤◌, ◌≢◌, ◌↔◌, List, [], ◌∷◌, length, sym, refl, ap, ◌∙◌, inl, inr, arith}
 use Rattle.std.proofs.lemmas.Bool.{ne_eqb, eq-eqb, cases_order}
 use Rattle.symbols.specs.declared.symbols.Crossing.{Crossing}
 use Rattle.rules.specs.Tables.{at, Rising, canonical}
 use Rattle.rules.specs.Crossings.{SameDrawing, count_on}
-use Rattle.rules.proofs.Tables.{Alike, drawings_tell_tables}
+use Rattle.rules.proofs.Tables.{drawings_tell_tables}
 
 abbrev pub Sorted : ℕ → List Crossing → Type 0
 Sorted r [] = Unit {0}

@@ -2,19 +2,18 @@
 --   Inv: the open marks before a number are those of the groups begun that go on
 --   tidy_comes_back, tidy_lawful: what the word of a tidy drawing draws, and that it is lawful
 --   length_writes: how long it is
-use Rattle.std.proofs.Common.{◌≡◌, ℕ, zero, suc, ◌+◌, ◌-◌, ◌<◌, ◌≤◌, Bool, true, false, cond, ◌||◌, eqb, ◌≢◌, ◌⊎◌, List, [], ◌∷◌, ◌++◌, length, get_or, replicate, Some, None, Option, sym, refl, ap, ◌∙◌, subst, inl, inr, arith, length-append}
+use Rattle.std.proofs.Common.{◌≡◌, ℕ, zero, suc, ◌+◌, ◌-◌, ◌<◌, ◌≤◌, Bool, true, false, ◌||◌, eqb, List, [], ◌∷◌, ◌++◌, length, replicate, Some, sym, refl, ap, ◌∙◌, subst, inl, inr, arith, length-append}
 use lib.ListN.{length-replicate}
-use Rattle.std.specs.List.{AllByRecursion as All}
 use Rattle.std.proofs.lemmas.Bool.{true≢false, false≢true, or_from, or_left, ne_eqb, eq-eqb, cases_eq, cases_order}
 use Rattle.symbols.specs.declared.symbols.Symbol.{Symbol}
-use Rattle.symbols.specs.declared.symbols.Symbol.TheVariants.{Corner, DeadEnd, SplitOpen, SplitClose, JunctionOpen, Branch, JunctionClose}
+use Rattle.symbols.specs.declared.symbols.Symbol.TheVariants.{Corner}
 use Rattle.symbols.specs.declared.symbols.Mark.{Mark}
 use Rattle.symbols.specs.declared.symbols.Mark.TheVariants.{Split, Junction}
 use Rattle.symbols.specs.declared.symbols.Crossing.{Crossing}
 use Rattle.rules.specs.Words.{crossing, put, reads, drawing_of, corners, is_corner, ends, Lawful}
 use Rattle.rules.specs.Tables.{mentions, symbol_at, writes, word_of}
 use Rattle.rules.proofs.Words.{from_parts}
-use Rattle.rules.proofs.Marks.{mark_at, holds, Stack, stack_up, stack_fresh, or_skip, Fine, Tidy, flag, Agrees, agrees_tail}
+use Rattle.rules.proofs.Marks.{mark_at, holds, Stack, stack_up, stack_fresh, or_skip, Fine, Tidy, Agrees, agrees_tail}
 
 -- The open marks before number k are those of the groups begun that go on in es.
 record Inv (k : ℕ) (st : List Mark) (es : List Crossing) : Type 0 where

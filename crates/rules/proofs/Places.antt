@@ -2,11 +2,11 @@
 --   crossing_is: the crossing of a road before which as many of it stand is the one at that place
 --   crossing_none: past a road's last place there is none
 --   crossing_found: what stands at a place is on the road, at that place
-use Rattle.std.proofs.Common.{◌≡◌, ℕ, zero, suc, ◌+◌, ◌<◌, ◌≤◌, Bool, true, false, cond, eqb, ltb, List, [], ◌∷◌, length, take, Some, None, Option, sym, refl, ap, ◌∙◌, subst, inl, inr, arith}
-use Rattle.std.proofs.lemmas.Bool.{eq-eqb, eqb-true, eqb-false, lt-ltb, ltb-true, cases_Bool, cases_lt, le-ltb}
+use Rattle.std.proofs.Common.{◌≡◌, ℕ, zero, suc, ◌<◌, ◌≤◌, eqb, List, [], ◌∷◌, length, take, Some, None, Option, sym, refl, ap, ◌∙◌, subst, inl, inr, arith}
+use Rattle.std.proofs.lemmas.Bool.{eq-eqb, eqb-true, lt-ltb, cases_Bool, cases_lt, le-ltb}
 use Rattle.symbols.specs.declared.symbols.Crossing.{Crossing}
 use Rattle.rules.specs.Tables.{at}
-use Rattle.rules.specs.Crossings.{count_on, place_of, crossing_at, one_on, where_in}
+use Rattle.rules.specs.Crossings.{count_on, place_of, crossing_at, one_on}
 use Rattle.rules.specs.Statements.{PlacesComeBack}
 
 pub crossing_is : (d : List Crossing) (q p i : ℕ) → i < length d → q ≡ (at d i).road → count_on q (take i d) ≡ p → crossing_at d q p ≡ Some i

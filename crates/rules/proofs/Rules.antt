@@ -2,14 +2,13 @@
 --   sorted_rising: roads that never fall from one record to the next rise over all records
 --   roads_tell, flags_tell, pairs_tell, cross_tell: each test fails exactly where its statement holds
 --   rules_are_told: a table has no fault exactly when it means a drawing
-use Rattle.std.proofs.Common.{◌≡◌, ℕ, zero, suc, ◌+◌, ◌<◌, ◌≤◌, Bool, true, false, cond, not, ◌&&◌, ◌||◌, eqb, ltb, ◌≢◌, ◌⊎◌, ◌↔◌, List, [], ◌∷◌, length, Some, None, Decides, Option, sym, refl, ap, ◌∙◌, inl, inr, arith}
+use Rattle.std.proofs.Common.{◌≡◌, ℕ, zero, suc, ◌<◌, ◌≤◌, Bool, true, false, cond, not, ◌&&◌, ◌||◌, eqb, ltb, ◌↔◌, List, [], ◌∷◌, length, Some, None, Decides, sym, refl, ap, ◌∙◌, inl, inr, arith}
 use mathlib.Core.Bool.{beq}
 use Rattle.std.proofs.lemmas.Bool.{true≢false, false≢true, or_parts, or_from, ltb-false, le-ltb, eq-eqb, eqb-true, cases_Bool, cases_order}
 use Rattle.std.proofs.lemmas.Bool.Decides.{Decides-not, Decides-and, Decides-eqb, Decides-below_or, not_from_Decides}
-use Rattle.symbols.specs.declared.refusals.Refusal.{Refusal}
 use Rattle.symbols.specs.declared.refusals.Refusal.TheVariants.{Roads, Flags, Pairs, Crossed}
 use Rattle.symbols.specs.declared.symbols.Crossing.{Crossing}
-use Rattle.rules.specs.Tables.{at, size_of, roads_break, some_below, together, flags_break, pairs_break, groups_cross, fault, Rising, Flagged, Paired, Uncrossed, Means}
+use Rattle.rules.specs.Tables.{at, size_of, roads_break, some_below, together, flags_break, pairs_break, groups_cross, Rising, Flagged, Paired, Uncrossed}
 use Rattle.rules.specs.Statements.{RulesAreTold}
 use Rattle.rules.proofs.Counts.{Sorted, sorted}
 

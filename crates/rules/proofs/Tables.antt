@@ -3,11 +3,10 @@
 --   Alike: two tables have as many records, on the same roads, the same ones together and the same ones with a vertex
 --   table_tidy: where a table means a drawing, that drawing is tidy
 --   drawings_tell_tables: the drawings of two tables are equal exactly when the tables are alike
-use Rattle.std.proofs.Common.{◌≡◌, ℕ, zero, suc, ◌+◌, ◌-◌, ◌<◌, ◌≤◌, Bool, true, false, cond, ◌||◌, eqb, ◌≢◌, ◌⊎◌, ◌↔◌, List, [], ◌∷◌, ◌++◌, map, length, get_or, drop, Some, None, Option, sym, refl, ap, ◌∙◌, subst, inl, inr, arith, drop-cons}
-use Rattle.std.specs.List.{AllByRecursion as All}
+use Rattle.std.proofs.Common.{◌≡◌, ℕ, zero, suc, ◌+◌, ◌-◌, ◌<◌, ◌≤◌, true, false, eqb, ◌≢◌, ◌↔◌, List, [], ◌∷◌, length, get_or, drop, sym, refl, ap, ◌∙◌, subst, inl, inr, arith, drop-cons}
 use Rattle.std.proofs.lemmas.List.{length-drop, length-map, get_or-drop, get_or-map, drop_all, ext_get_or}
 use Rattle.std.proofs.ByRecursion.{All-from_get_or}
-use Rattle.std.proofs.lemmas.Bool.{true≢false, false≢true, or_from, or_left, or_right, or_cases, ne_eqb, eq-eqb, eqb-true, cases_eq, cases_Bool, cases_order, cond_both}
+use Rattle.std.proofs.lemmas.Bool.{false≢true, or_left, or_right, or_cases, eq-eqb, eqb-true, cases_eq, cases_Bool, cond_both}
 use Rattle.symbols.specs.declared.symbols.Crossing.{Crossing}
 use Rattle.rules.specs.Tables.{blank, at, size_of, mentions, Means, first_of, named, canonical}
 use Rattle.rules.proofs.Marks.{Fine, Tidy}

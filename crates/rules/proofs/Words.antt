@@ -2,17 +2,17 @@
 --   Parts: what lawful says, part by part
 --   Answered: what reading symbols has answered
 --   comes_back, draws_tidy: a word of four corners is the word of what it draws, and that is tidy
-use Rattle.std.proofs.Common.{◌≡◌, ℕ, zero, suc, ◌+◌, ◌-◌, ◌<◌, ◌≤◌, Bool, true, false, cond, ◌&&◌, ◌||◌, eqb, leb, List, [], ◌∷◌, ◌++◌, length, get_or, replicate, is_some, Some, None, Option, sym, refl, ap, ◌∙◌, subst, inl, inr, arith}
+use Rattle.std.proofs.Common.{◌≡◌, ℕ, suc, ◌+◌, ◌-◌, ◌<◌, ◌≤◌, Bool, true, false, ◌||◌, eqb, List, [], ◌∷◌, length, is_some, Some, None, Option, sym, refl, ap, ◌∙◌, subst, inl, inr, arith}
 use Rattle.std.specs.List.{AllByRecursion as All}
-use Rattle.std.proofs.lemmas.Bool.{true≢false, false≢true, or_from, or_left, or_parts, and_from, and_parts, ne_eqb, eq-eqb, eqb-true, eqb-false, leb-true, le-leb, cases_Bool}
+use Rattle.std.proofs.lemmas.Bool.{true≢false, false≢true, or_left, or_parts, and_from, and_parts, ne_eqb, eq-eqb, eqb-true, eqb-false, leb-true, le-leb}
 use Rattle.symbols.specs.declared.symbols.Symbol.{Symbol}
 use Rattle.symbols.specs.declared.symbols.Symbol.TheVariants.{Corner, DeadEnd, SplitOpen, SplitClose, JunctionOpen, Branch, JunctionClose}
 use Rattle.symbols.specs.declared.symbols.Mark.{Mark}
 use Rattle.symbols.specs.declared.symbols.Mark.TheVariants.{Split, Junction}
 use Rattle.symbols.specs.declared.symbols.Crossing.{Crossing}
-use Rattle.rules.specs.Words.{put, reads, drawing_of, or_empty, drawn, corners, is_corner, ends, shaped, lawful, Lawful}
+use Rattle.rules.specs.Words.{put, reads, drawing_of, or_empty, drawn, corners, ends, shaped, Lawful}
 use Rattle.rules.specs.Tables.{mentions, symbol_at, writes, word_of}
-use Rattle.rules.proofs.Marks.{mark_at, holds, Stack, stack_up, stack_fresh, or_skip, or_twice, Fine, Tidy, flag, Agrees}
+use Rattle.rules.proofs.Marks.{mark_at, holds, Stack, stack_up, stack_fresh, or_skip, or_twice, Tidy, Agrees}
 
 -- the head's road is at least r
 abbrev pub Low : ℕ → List Crossing → Type 0

@@ -12,7 +12,7 @@
 --   one_on: a number one further on
 --   crossing_at: the crossing at a place of a road
 --   SameDrawing: as many crossings on each road, the same crossings together, the same ones with a vertex
-use Rattle.std.specs.Prelude.{◌≡◌, ℕ, zero, suc, ◌+◌, ◌-◌, ◌<◌, Bool, true, false, cond, ◌↔◌, List, [], ◌∷◌, length, take, Some, None, Option, ◌==◌, nat_lt}
+use Rattle.std.specs.Prelude.{◌≡◌, ℕ, zero, suc, ◌-◌, ◌<◌, Bool, cond, ◌↔◌, List, [], ◌∷◌, length, take, Some, None, Option, ◌==◌, nat_lt}
 use Rattle.symbols.specs.declared.symbols.Crossing.{Crossing}
 use Rattle.rules.specs.Tables.{at}
 

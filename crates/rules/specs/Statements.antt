@@ -12,14 +12,14 @@
 --   four_on_w: a table of four records on W
 --   AllHold: each pair is of two equal things
 --   Examples: the worked examples
-use Rattle.std.specs.Prelude.{◌≡◌, ℕ, zero, suc, ◌+◌, ◌<◌, ◌≤◌, Bool, true, false, ◌↔◌, List, [], ◌∷◌, length, Some, None, Ok, Err, codes, Option, Result}
+use Rattle.std.specs.Prelude.{◌≡◌, ℕ, zero, suc, ◌+◌, ◌<◌, true, ◌↔◌, List, [], ◌∷◌, length, Some, None, Ok, Err, codes, Result}
 use Rattle.symbols.specs.declared.refusals.Refusal.{Refusal}
 use Rattle.symbols.specs.declared.symbols.Crossing.{Crossing}
 use Rattle.symbols.specs.declared.symbols.Symbol.{Symbol}
 use Rattle.symbols.specs.Refusals.{number}
 use Rattle.symbols.specs.Symbols.{spelt, text}
 use Rattle.rules.specs.Words.{Lawful, crossing, drawing_of, drawn, read_word}
-use Rattle.rules.specs.Tables.{Means, Rising, fault, canonical, build_word}
+use Rattle.rules.specs.Tables.{Means, fault, canonical, build_word}
 use Rattle.rules.specs.Crossings.{SameDrawing, before, after, group_at, place_of, crossing_at, leaves_at, enters_at}
 
 abbrev pub TextsComeBack : Type 0

@@ -4,7 +4,6 @@
 use Rattle.std.specs.Prelude.{◌≡◌, ℕ, ◌*◌, ◌<◌, List, [], length, slice_index_or}
 use Rattle.std.proofs.Common.{sym, subst, arith}
 use Rattle.std.proofs.ByRecursion.{All-from_get_or}
-use Rattle.symbols.specs.declared.symbols.Symbol.{Symbol}
 use Rattle.rules.specs.Words.{Lawful}
 use Rattle.stores.specs.Sources.{LawfulTold}
 use Rattle.stores.specs.Numbered.{word_numbered, words_numbered}

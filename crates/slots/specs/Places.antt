@@ -7,7 +7,7 @@
 --   slots_keep, never_full: the words of slots keep to the slot and to all slots together
 --   never_refused: so no write is refused for want of room in all slots
 --   blank_lawful, blank_words: slots of zeros hold the empty word everywhere
-use Rattle.std.specs.Prelude.{◌≡◌, ℕ, zero, suc, ◌+◌, ◌-◌, ◌*◌, ◌<◌, ◌≤◌, Bool, true, false, cond, ◌&&◌, ◌≢◌, List, [], ◌∷◌, ◌++◌, map, length, take, drop, replicate, is_some, Ok, Err, Option, Result, nat_lt, slice_index_or, slice_set, refl}
+use Rattle.std.specs.Prelude.{◌≡◌, ℕ, suc, ◌+◌, ◌-◌, ◌*◌, ◌<◌, ◌≤◌, Bool, true, false, ◌≢◌, List, [], ◌++◌, map, length, take, drop, replicate, is_some, Ok, Err, nat_lt, slice_index_or, slice_set, refl}
 use Rattle.std.proofs.Common.{sym, ap, subst, ◌∙◌, inl, inr, mul_comm, add-mul, mul-le-mul_left, mul-le-mul_right, arith, length-append}
 use borrow.Rule.Slice.PartMut.{put_mid}
 use Rattle.std.specs.List.{AllByRecursion as All}
@@ -17,8 +17,7 @@ use Rattle.std.proofs.lemmas.Slice.{between_is, take-put_mid_below, drop-put_mid
 use Rattle.std.proofs.lemmas.Bool.{cases_eq, cases_lt, cases_order, cond-false, le-ltb, false≢true}
 use Rattle.symbols.specs.declared.symbols.Symbol.{Symbol}
 use Rattle.symbols.specs.Symbols.{code}
-use Rattle.symbols.specs.declared.refusals.Refusal.{Refusal}
-use Rattle.symbols.specs.declared.refusals.Refusal.TheVariants.{NoPixel, NoWord, Unlawful, OverLongest, OverTotal}
+use Rattle.symbols.specs.declared.refusals.Refusal.TheVariants.{NoWord, Unlawful, OverTotal}
 use Rattle.symbols.specs.Refusals.{filled}
 use Rattle.rules.specs.Words.{Drawing, lawful, Lawful, shaped, drawing_of, drawn, judged}
 use Rattle.plain.specs.Plain.{Answer, Keeps, symbols_in, symbols_of, answer, write}

@@ -7,18 +7,18 @@
 --   Fills, fills_short, fills_well: memory that an answer fills, or is too long for
 --   blank_front: memory whose front was made zeros
 --   front_encoded: the word at the front of a lawful word's bytes is that word, whatever follows
-use Rattle.std.proofs.Common.{◌≡◌, ℕ, zero, suc, ◌+◌, ◌-◌, ◌<◌, ◌≤◌, Bool, true, false, cond, eqb, ◌≢◌, List, [], ◌∷◌, ◌++◌, map, length, get_or, take, drop, set, replicate, Ok, Err, Result, sym, refl, ap, ◌∙◌, subst, inl, inr, add-one, arith}
-use lib.ListN.{length-map, length-replicate}
-use Rattle.std.proofs.lemmas.List.{at_drop_more, at_drop_all, append_assoc, map-append, drop-map, drop_more, set_at, length-take-le, take_more}
+use Rattle.std.proofs.Common.{◌≡◌, ℕ, zero, suc, ◌+◌, ◌-◌, ◌<◌, ◌≤◌, false, ◌≢◌, List, [], ◌∷◌, ◌++◌, length, get_or, take, drop, set, replicate, Ok, Err, Result, sym, refl, ap, ◌∙◌, subst, arith}
+use lib.ListN.{length-replicate}
+use Rattle.std.proofs.lemmas.List.{at_drop_more, at_drop_all, append_assoc, map-append, drop_more, set_at, length-take-le, take_more}
 use Rattle.std.proofs.lemmas.Bool.{ne_eqb, lt-ltb, le-ltb}
 use Rattle.symbols.specs.declared.refusals.Refusal.{Refusal}
 use Rattle.symbols.specs.declared.refusals.Refusal.TheVariants.{Short}
 use Rattle.symbols.specs.Refusals.{fill_answer, filled}
 use Rattle.symbols.specs.declared.symbols.Symbol.{Symbol}
 use Rattle.symbols.specs.declared.symbols.Symbol.TheVariants.{Corner, DeadEnd, SplitOpen, SplitClose, JunctionOpen, Branch, JunctionClose}
-use Rattle.symbols.specs.Symbols.{code, coded}
-use Rattle.rules.specs.Words.{is_corner, corners, Lawful}
-use Rattle.rules.proofs.Words.{Parts, parts}
+use Rattle.symbols.specs.Symbols.{code}
+use Rattle.rules.specs.Words.{is_corner, Lawful}
+use Rattle.rules.proofs.Words.{parts}
 use Rattle.codec.specs.Words.{left}
 use Rattle.codec.specs.Loops.{up_to}
 use Rattle.codec.proofs.Words.{lawful_ends}

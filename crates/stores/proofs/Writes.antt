@@ -6,17 +6,17 @@
 --   write_no_pixel, write_bad, write_long, write_full, write_fine: the cases of a write
 --   drawn_short: the drawings of short words count few symbols
 --   keeps_told: words that keep to a longest and a total
-use Rattle.std.proofs.Common.{◌≡◌, ℕ, zero, suc, ◌+◌, ◌*◌, ◌<◌, ◌≤◌, Bool, true, false, cond, ◌||◌, ltb, List, [], ◌∷◌, map, length, get_or, set, Ok, Err, sum_by, Result, sym, refl, ap, ◌∙◌, subst, inl, inr, arith}
+use Rattle.std.proofs.Common.{◌≡◌, ℕ, ◌*◌, ◌<◌, ◌≤◌, true, false, ◌||◌, ltb, List, [], ◌∷◌, map, length, set, Ok, Err, Result, sym, refl, ap, ◌∙◌, subst, arith}
 use lib.ListN.{length-map}
 use Rattle.std.specs.List.{AllByRecursion as All}
 use Rattle.std.proofs.lemmas.Bool.{lt-ltb, le-ltb, or_left, or_from}
 use Rattle.symbols.specs.declared.refusals.Refusal.{Refusal}
 use Rattle.symbols.specs.declared.refusals.Refusal.TheVariants.{NoPixel, OverLongest, OverTotal}
 use Rattle.symbols.specs.declared.symbols.Symbol.{Symbol}
-use Rattle.rules.specs.Words.{Drawing, Lawful, drawn, judged}
-use Rattle.model.specs.Sheets.{Sheet, Sheetly, IsDrawing}
+use Rattle.rules.specs.Words.{Lawful, drawn, judged}
+use Rattle.model.specs.Sheets.{Sheetly, IsDrawing}
 use Rattle.rules.proofs.Correspondence.{words_come_back}
-use Rattle.plain.specs.Plain.{Plain, Keeps, Opens, symbols_in, symbols_of, answer, step, write}
+use Rattle.plain.specs.Plain.{Plain, Keeps, symbols_in, symbols_of, answer, step, write}
 use Rattle.plain.proofs.Offers.{judged_word, words_counted}
 use Rattle.stores.specs.Sources.{Told, LawfulTold, sheet_told, plain_told}
 

@@ -9,7 +9,7 @@
 --   sheet_told: the sheet of the words' drawings
 --   plain_told: the plain sheet of them, with a longest and a total
 --   ToldSheetly: the drawings of lawful words make a sheet
-use Rattle.std.specs.Prelude.{◌≡◌, ℕ, ◌*◌, ◌≤◌, cond, List, [], ◌∷◌, map, length, replicate, Ok, Err, Result, nat_lt, slice_index_or}
+use Rattle.std.specs.Prelude.{◌≡◌, ℕ, ◌*◌, ◌≤◌, cond, List, [], ◌∷◌, map, length, replicate, Err, Result, nat_lt, slice_index_or}
 use Rattle.std.specs.List.{AllByRecursion as All}
 use Rattle.symbols.specs.declared.refusals.Refusal.{Refusal}
 use Rattle.symbols.specs.declared.refusals.Refusal.TheVariants.{NoPixel}

@@ -4,14 +4,14 @@
 --   Lining: so many darts of a sidewalk have been put
 --   lining_start, lining_dart, lining_short, lining_more, lining_end: at its start; the dart that comes next; how far it
 --     may be; one dart more; the line's end
-use Rattle.std.proofs.Common.{◌≡◌, ℕ, zero, suc, ◌+◌, ◌*◌, ◌^◌, ◌<◌, ◌≤◌, true, false, List, [], ◌∷◌, ◌++◌, length, Some, None, Ok, Err, Result, sym, refl, ap, ◌∙◌, subst, arith}
+use Rattle.std.proofs.Common.{◌≡◌, ℕ, zero, suc, ◌+◌, ◌*◌, ◌<◌, ◌≤◌, true, false, List, [], ◌∷◌, ◌++◌, length, Some, Ok, Err, Result, sym, refl, ap, ◌∙◌, arith}
 use Rattle.std.specs.Result.{result_ok}
 use Rattle.std.specs.List.{flat_map}
 use Rattle.std.proofs.lemmas.List.{append-nil}
 use Rattle.symbols.specs.declared.refusals.Refusal.{Refusal}
 use Rattle.orbits.specs.Orbits.{times, steps, line}
 use Rattle.model.specs.declared.darts.Dart.{Dart}
-use Rattle.model.specs.Sheets.{Sheet, Sheetly, pixels}
+use Rattle.model.specs.Sheets.{Sheet, Sheetly}
 use Rattle.model.specs.Darts.{is_dart, darts, next_of}
 use Rattle.model.specs.Streets.{leaves_vertex, circles, item, line_text}
 use Rattle.model.specs.Statements.{NoRoadFails}

@@ -5,14 +5,14 @@
 --   two_banks, streets_pair: each sidewalk has its other bank
 --   even: their number is even
 --   streets_halve: the number of streets is half of it
-use Rattle.std.proofs.Common.{◌≡◌, ℕ, ◌+◌, length, Ok, Result, sym, refl, ap, ◌∙◌, arith}
+use Rattle.std.proofs.Common.{◌≡◌, ℕ, ◌+◌, length, Result, sym, ap, ◌∙◌, arith}
 use Rattle.symbols.specs.declared.refusals.Refusal.{Refusal}
 use Rattle.orbits.specs.Orbits.{In, begins}
 use Rattle.orbits.proofs.Members.{in_kept, kept_in, apart_kept}
 use Rattle.model.specs.declared.darts.Dart.{Dart}
 use Rattle.model.specs.Sheets.{Sheet, Sheetly}
 use Rattle.model.specs.Darts.{same_dart, darts, turn, opposite_of, next_of}
-use Rattle.model.specs.Streets.{leaves_vertex, circles, given_if, check, counts}
+use Rattle.model.specs.Streets.{leaves_vertex, circles, given_if, counts}
 use Rattle.model.specs.Statements.{NoRoadFails}
 use Rattle.model.proofs.Checking.{check_free}
 use Rattle.model.proofs.Inside.{dart_parts}

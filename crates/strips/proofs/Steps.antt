@@ -4,7 +4,7 @@
 --   found: where a question finds its word
 --   spotted, stands: where a write finds its word
 --   moved, rewritten: the memory after a write, and its words
-use Rattle.std.proofs.Common.{◌≡◌, ℕ, suc, ◌+◌, ◌-◌, ◌<◌, ◌≤◌, List, [], ◌∷◌, ◌++◌, length, get_or, take, drop, sym, ap, ◌∙◌, append_assoc, arith, length-append, length-drop}
+use Rattle.std.proofs.Common.{◌≡◌, ℕ, suc, ◌+◌, ◌-◌, ◌<◌, ◌≤◌, List, [], ◌++◌, length, get_or, take, drop, sym, ap, ◌∙◌, append_assoc, arith, length-append, length-drop}
 use lib.ListN.{length-map}
 use lib.Seq.{paste}
 use borrow.Rule.Slice.PartMut.{put_mid, post_of}

@@ -3,7 +3,7 @@
 --   values: the place that a refusal carries: pixel and road code, or pixel, road code and place; nothing for the others
 --   fill_answer: what a call tells that fills memory with an answer: the answer's length, or that the memory is short
 --   filled: what that memory holds then: the answer and behind it what was there, or all that was there
-use Rattle.std.specs.Prelude.{ℕ, Bool, true, false, cond, List, [], ◌∷◌, ◌++◌, length, drop, Ok, Err, Result, nat_lt}
+use Rattle.std.specs.Prelude.{ℕ, cond, List, [], ◌∷◌, ◌++◌, length, drop, Ok, Err, Result, nat_lt}
 use Rattle.symbols.specs.declared.refusals.Refusal.{Refusal}
 use Rattle.symbols.specs.declared.refusals.Refusal.TheVariants as r
 use Rattle.symbols.specs.Symbols.{road_code}

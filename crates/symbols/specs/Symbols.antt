@@ -9,7 +9,7 @@
 --   joined: one more before a list, if there are both
 --   spelt: the symbols of a text, if each of its characters is one; a text is its list of bytes
 --   text: the text of symbols
-use Rattle.std.specs.Prelude.{ℕ, Bool, true, false, cond, List, [], ◌∷◌, map, Some, None, Option, ◌==◌}
+use Rattle.std.specs.Prelude.{ℕ, cond, List, [], ◌∷◌, map, Some, None, Option, ◌==◌}
 use Rattle.symbols.specs.declared.roads.Road.{Road}
 use Rattle.symbols.specs.declared.roads.Road.TheVariants.{West, North, East, South}
 use Rattle.symbols.specs.declared.symbols.Symbol.{Symbol}

@@ -2,14 +2,13 @@
 --   judged_fault: what the code refuses with is the fault
 --   no_fault, rising_table: a table that means a drawing has none, and one that has none has few records and rising roads
 --   built_word: a table without a fault is built into the word of its drawing
-use Rattle.std.proofs.Common.{◌≡◌, ℕ, ◌≤◌, Bool, true, false, cond, ◌||◌, ltb, ◌↔◌, List, length, Some, None, Ok, Err, Option, Result, sym, refl, ap, ◌∙◌, inl, inr}
-use Rattle.std.proofs.lemmas.Bool.{cases_Bool, or_parts, or_from, ltb-false, le-ltb, and_parts}
+use Rattle.std.proofs.Common.{◌≡◌, ◌≤◌, Bool, true, false, ◌||◌, ltb, ◌↔◌, List, length, Some, None, Ok, Err, sym, ◌∙◌, inl, inr}
+use Rattle.std.proofs.lemmas.Bool.{cases_Bool, or_parts, or_from, ltb-false, le-ltb}
 use Rattle.symbols.specs.declared.refusals.Refusal.{Refusal}
 use Rattle.symbols.specs.declared.refusals.Refusal.TheVariants as r
 use Rattle.symbols.specs.declared.symbols.Crossing.{Crossing}
-use Rattle.symbols.specs.declared.symbols.Symbol.{Symbol}
-use Rattle.rules.specs.Words.{shaped, drawing_of, judged, Lawful}
-use Rattle.rules.specs.Tables.{fault, roads_break, flags_break, pairs_break, groups_cross, Means, Rising, canonical, word_of, build_word, unless}
+use Rattle.rules.specs.Words.{judged}
+use Rattle.rules.specs.Tables.{fault, roads_break, Means, Rising, canonical, word_of, build_word}
 use Rattle.rules.proofs.Correspondence.{tables_come_back, judged_ok}
 use Rattle.rules.proofs.Rules.{roads_tell, flags_tell, pairs_tell, cross_tell, rules_are_told}
 use Rattle.tables.specs.Judging.{Judged}

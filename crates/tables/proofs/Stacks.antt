@@ -5,12 +5,12 @@
 --   Open: the open groups are those begun that go on
 --   firsts_at, length_firsts: the first records of a table's groups, by number
 --   stack_decides: the theorem
-use Rattle.std.proofs.Common.{◌≡◌, ℕ, zero, suc, ◌+◌, ◌-◌, ◌<◌, ◌≤◌, Bool, true, false, cond, ◌||◌, eqb, ◌≢◌, ◌⊎◌, ◌↔◌, List, [], ◌∷◌, map, length, get_or, drop, Some, None, Option, sym, refl, ap, ◌∙◌, subst, inl, inr, arith, drop-cons}
+use Rattle.std.proofs.Common.{◌≡◌, ℕ, zero, suc, ◌+◌, ◌-◌, ◌<◌, ◌≤◌, Bool, true, false, cond, eqb, ◌⊎◌, ◌↔◌, List, [], ◌∷◌, length, get_or, drop, Some, None, Option, sym, refl, ap, ◌∙◌, subst, inl, inr, arith, drop-cons}
 use Rattle.std.proofs.lemmas.List.{length-drop, length-map, get_or-drop, get_or-map, drop_all}
 use Rattle.std.proofs.lemmas.Bool.{true≢false, false≢true, or_from, or_left, or_right, or_cases, ne_eqb, eq-eqb, eqb-true, cases_eq, cases_lt, cases_Bool, cases_order}
 use Rattle.symbols.specs.declared.symbols.Crossing.{Crossing}
-use Rattle.rules.specs.Tables.{at, blank, first_of, Uncrossed}
-use Rattle.tables.specs.Nests.{within, firsts, firsts_in, inner, turn, nests}
+use Rattle.rules.specs.Tables.{at, blank, Uncrossed}
+use Rattle.tables.specs.Nests.{within, firsts, firsts_in, turn, nests}
 use Rattle.rules.proofs.Marks.{or_skip}
 use Rattle.rules.proofs.Drawings.{or_strip, or_strip₂, one_more}
 use Rattle.rules.proofs.Tables.{leader, first_le, first_group, same_first, same_group}

@@ -4,14 +4,14 @@
 --   nests-..: the stack's test
 --   firsts_low: a group's first record is not behind any of its records
 --   last_more, goes_on_at: marking the last record of each group, and what that tells
-use Rattle.std.proofs.Common.{◌≡◌, ℕ, zero, suc, ◌+◌, ◌-◌, ◌<◌, ◌≤◌, Bool, true, false, cond, ◌||◌, eqb, ltb, ◌≢◌, List, [], ◌∷◌, length, get_or, drop, set, Some, None, Option, sym, refl, ap, ◌∙◌, inl, inr, add-one, arith}
+use Rattle.std.proofs.Common.{◌≡◌, ℕ, zero, suc, ◌+◌, ◌-◌, ◌<◌, ◌≤◌, Bool, true, false, ltb, ◌≢◌, List, length, get_or, drop, set, Some, None, Option, sym, refl, ap, ◌∙◌, inl, inr, add-one, arith}
 use Rattle.std.proofs.lemmas.List.{get_or-set_same, get_or-set_other, get_or-drop, length-drop, at_drop_more, at_drop_all}
 use Rattle.std.proofs.lemmas.Bool.{ne_eqb, eq-eqb, lt-ltb, le-ltb, cases_eq, cases_lt}
 use Rattle.symbols.specs.declared.symbols.Crossing.{Crossing}
 use Rattle.rules.specs.Tables.{at, blank, first_of, size_of}
 use Rattle.tables.proofs.Stacks.{nests_none, within_from, within_at, never, firsts_at, length_firsts}
 use Rattle.rules.proofs.Tables.{first_le}
-use Rattle.tables.specs.Nests.{within, turn, inner, pile, nests, firsts, Lasts}
+use Rattle.tables.specs.Nests.{within, turn, pile, nests, firsts, Lasts}
 
 pile_set : (a : List ℕ) (d g n : ℕ) → n ≤ d → pile (set a d g) n ≡ pile a n
 pile_set a d g zero h = refl

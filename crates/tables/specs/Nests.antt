@@ -8,7 +8,7 @@
 --   pile: the stack that the first places of a list hold, the last of them on top
 --   piled: the same of a depth, if there is one
 --   Lasts: for each number below a bound, a place where the same number stands last
---   Goes_on: for each number, whether it stands again further on
+--   GoesOn: for each number, whether it stands again further on
 use Rattle.std.specs.Prelude.{◌≡◌, ℕ, zero, suc, ◌+◌, ◌<◌, ◌≤◌, Bool, true, false, cond, ◌||◌, List, [], ◌∷◌, map, length, drop, Some, None, Option, ◌==◌, slice_index, slice_index_or}
 use Rattle.symbols.specs.declared.symbols.Crossing.{Crossing}
 use Rattle.rules.specs.Tables.{first_of}
@@ -52,5 +52,5 @@ abbrev pub Lasts : List ℕ → List ℕ → ℕ → Type 0
 Lasts xs lasts n =
     (j : ℕ) → j < n → (j ≤ slice_index lasts (slice_index xs j)) × (slice_index lasts (slice_index xs j) < n) × (slice_index xs (slice_index lasts (slice_index xs j)) ≡ slice_index xs j)
 
-abbrev pub Goes_on : List ℕ → List Bool → Type 0
-Goes_on xs more = (k : ℕ) → k < length xs → slice_index_or more k false ≡ within (slice_index xs k) (drop (k + 1) xs)
+abbrev pub GoesOn : List ℕ → List Bool → Type 0
+GoesOn xs more = (k : ℕ) → k < length xs → slice_index_or more k false ≡ within (slice_index xs k) (drop (k + 1) xs)

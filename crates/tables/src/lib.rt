@@ -3,7 +3,7 @@
 
 ghost use Rattle.std.specs.Prelude.{◌≡◌, ℕ, ◌+◌, ◌<◌, ◌≤◌, [], length, IfSome, Some, Decides, slice_index};
 ghost use Rattle.rules.specs.Tables.{first_of, size_of, fault, Rising, Flagged, Paired, Uncrossed};
-ghost use Rattle.tables.specs.Nests.{firsts as numbers, Lasts, Goes_on, turn, nests, pile, piled};
+ghost use Rattle.tables.specs.Nests.{firsts as numbers, Lasts, GoesOn, turn, nests, pile, piled};
 ghost use Rattle.tables.specs.Judging.{Judged};
 
 use symbols::{Crossing, Refusal};
@@ -61,7 +61,7 @@ fn mark_lasts(firsts: &[u8], lasts: &mut [u8])
 // Writes for each record whether another of its group follows.
 fn find_more(firsts: &[u8], more: &mut [bool])
     requires { (length firsts.now ≤ length more.old) × ((length firsts.now ≤ 60) × (((k : ℕ) → k < length firsts.now → slice_index firsts.now k ≤ k))) }
-    ensures { Goes_on firsts.now more.new }
+    ensures { GoesOn firsts.now more.new }
 {
     let mut lasts = [0u8; 60];
     mark_lasts(firsts, &mut lasts);
@@ -98,7 +98,7 @@ fn turned(stack: &mut [u8], depth: usize, k: usize, g: u8, more: bool) -> Option
 
 // Whether no groups cross, given the first record of each record's group and whether another follows.
 fn nested(firsts: &[u8], more: &[bool]) -> bool
-    requires { (length firsts.now ≤ 60) × ((length firsts.now ≤ length more.now) × (Goes_on firsts.now more.now)) }
+    requires { (length firsts.now ≤ 60) × ((length firsts.now ≤ length more.now) × (GoesOn firsts.now more.now)) }
     ensures { result ≡ nests 0 (Some []) firsts.now }
 {
     let mut stack = [0u8; 60];

@@ -6,10 +6,9 @@
 --   write_more: one turn of the loop that writes letters
 --   holds_word: what is held of a lawful word
 --   crossings_decided: crossings compared are told equal exactly where they are
-use Rattle.std.proofs.Common.{◌≡◌, ℕ, zero, suc, ◌+◌, ◌-◌, ◌<◌, ◌≤◌, Bool, true, false, cond, ◌&&◌, ltb, leb, List, [], ◌∷◌, ◌++◌, map, length, get_or, take, drop, set, replicate, is_some, Some, None, Ok, Err, Option, Result, sym, refl, ap, ◌∙◌, subst, inl, inr, arith}
-use lib.ListN.{length-replicate}
-use Rattle.std.proofs.lemmas.List.{take_at, take_more_set, map_more, append-nil, append_assoc, at_drop_more, at_drop_all, length-map}
-use Rattle.std.proofs.lemmas.Bool.{lt-leb, le-ltb, ltb-false, cases_Bool, false≢true}
+use Rattle.std.proofs.Common.{◌≡◌, ℕ, suc, ◌+◌, ◌<◌, ◌≤◌, Bool, true, false, cond, ◌&&◌, ltb, leb, List, [], ◌∷◌, ◌++◌, length, get_or, take, drop, set, is_some, Some, None, Ok, Err, Option, Result, sym, refl, ap, ◌∙◌, subst, inl, inr, arith}
+use Rattle.std.proofs.lemmas.List.{take_at, take_more_set, map_more, append-nil, append_assoc, at_drop_more, at_drop_all}
+use Rattle.std.proofs.lemmas.Bool.{lt-leb, le-ltb, ltb-false, cases_Bool}
 use Rattle.symbols.specs.declared.refusals.Refusal.{Refusal}
 use Rattle.symbols.specs.declared.refusals.Refusal.TheVariants.{NoWord, Unlawful, Short}
 use Rattle.symbols.specs.declared.symbols.Crossing.{Crossing}
@@ -17,8 +16,8 @@ use Rattle.symbols.specs.declared.symbols.Symbol.{Symbol}
 use Rattle.symbols.specs.declared.symbols.Symbol.TheVariants.{Corner}
 use Rattle.symbols.specs.Refusals.{filled, fill_answer}
 use Rattle.symbols.specs.Symbols.{letter, lettered, joined, spelt, text}
-use Rattle.rules.specs.Words.{shaped, drawing_of, drawn, lawful, Lawful, judged, judged_spelt, read_word}
-use Rattle.rules.proofs.Words.{Parts, parts}
+use Rattle.rules.specs.Words.{shaped, drawing_of, lawful, Lawful, judged, judged_spelt, read_word}
+use Rattle.rules.proofs.Words.{parts}
 use Rattle.rules.proofs.Correspondence.{judged_ok}
 use Rattle.drawings.specs.Drawings.{draws}
 use Rattle.words.specs.Held.{same_crossing}

@@ -1,7 +1,6 @@
 use Rattle.stores.specs.Sources.{sheet_told}
 use Rattle.stores.proofs.Writes.{told_sheetly}
 use Rattle.records.specs.Told.{record_told, record_lawful}
-use Rattle.capi.specs.Codes.{dart_coded}
 use Rattle.capi.proofs.Small.{next_small}
 use Rattle.capi.proofs.plate_next.Goals as goal
 

@@ -1,4 +1,4 @@
-use Rattle.std.proofs.Common.{◌≡◌, ◌-◌, ◌++◌, length, string_bytes}
+use Rattle.std.proofs.Common.{◌≡◌, ◌-◌, ◌++◌, string_bytes}
 use Rattle.drawings.specs.Drawings.{crossings}
 use Rattle.explain.specs.Explained.{lines, meaning}
 use Rattle.explain.proofs.tell.Given as goal

@@ -1,4 +1,4 @@
-use Rattle.std.proofs.Common.{◌≡◌, ℕ, List, length, take, IfOk, vec_items, sym, ap, ◌∙◌, subst, arith}
+use Rattle.std.proofs.Common.{◌≡◌, ℕ, List, length, take, IfOk, vec_items, ap, ◌∙◌, subst, arith}
 use Rattle.model.specs.Streets.{street_list}
 use Rattle.stores.specs.Sources.{sheet_told}
 use Rattle.printed.specs.Printed.{most_list}

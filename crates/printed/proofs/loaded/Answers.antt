@@ -1,6 +1,6 @@
-use Rattle.std.proofs.Common.{◌≡◌, ℕ, ◌*◌, Some, sym, refl, ap, ◌∙◌}
+use Rattle.std.proofs.Common.{◌*◌, Some, sym, ap, ◌∙◌}
 use Rattle.codec.proofs.Records.{read_sheetly}
-use Rattle.stores.specs.Sources.{Told, plain_told}
+use Rattle.stores.specs.Sources.{plain_told}
 use Rattle.slots.specs.Slots.{slots_told}
 use Rattle.plain.specs.Plain.{sheet_in}
 use Rattle.printed.proofs.Loading.{loads, roomy}

@@ -1,4 +1,4 @@
-use Rattle.std.proofs.Common.{◌≡◌, ℕ, ◌≤◌, true, length, get_or, sym, ap, ◌∙◌, rules}
+use Rattle.std.proofs.Common.{◌≡◌, ◌≤◌, true, length, get_or, rules}
 use Rattle.std.proofs.lemmas.List.{take_rest}
 use Rattle.codec.specs.Records.{side}
 use Rattle.records.proofs.Opening.{headed}

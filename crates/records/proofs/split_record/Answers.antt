@@ -1,4 +1,4 @@
-use Rattle.std.proofs.Common.{◌≡◌, ◌*◌, ◌≤◌, length, sym, refl, ap, ◌∙◌, arith}
+use Rattle.std.proofs.Common.{◌*◌, ◌≤◌, length, sym, refl, ◌∙◌, arith}
 use Rattle.records.proofs.Opening.{bad_length, bad_runs, bad_words, good_record}
 use Rattle.records.proofs.split_record.Goals as goal
 

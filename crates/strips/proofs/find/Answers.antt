@@ -1,4 +1,3 @@
-use Rattle.std.proofs.Common.{arith}
 use Rattle.strips.proofs.Steps.{spotted}
 use Rattle.strips.proofs.find.Goals as goal
 

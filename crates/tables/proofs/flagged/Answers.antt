@@ -3,7 +3,7 @@ use mathlib.Core.Bool.{beq}
 use Rattle.std.proofs.lemmas.Bool.{false≢true, true≢false}
 use Rattle.rules.specs.Tables.{at}
 use Rattle.tables.proofs.flagged.Goals as goal
-use Rattle.rules.proofs.Tables.{leader, first_le, first_group}
+use Rattle.rules.proofs.Tables.{first_le, first_group}
 
 differ : (x y : Bool) → not (beq x y) ≡ true → x ≡ y → false ≡ true
 differ true true n p = n

@@ -1,4 +1,3 @@
-use Rattle.std.proofs.Common.{◌≡◌, length}
 use Rattle.tables.specs.Nests.{Lasts}
 use Rattle.tables.proofs.mark_lasts.Given as goal
 

@@ -1,6 +1,6 @@
-use Rattle.std.proofs.Common.{arith, rules}
+use Rattle.std.proofs.Common.{arith}
 use Rattle.tables.proofs.turned.Goals as goal
-use Rattle.tables.proofs.Steps.{turn_push, turn_keep, turn_empty, turn_cross, turn_on, turn_pop}
+use Rattle.tables.proofs.Steps.{turn_push, turn_cross, turn_on, turn_pop}
 
 pub returns-then-more : goal.returns-then-more
 returns-then-more c = record {

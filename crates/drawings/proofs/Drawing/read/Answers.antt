@@ -1,4 +1,3 @@
-use Rattle.std.proofs.Common.{rules}
 use Rattle.drawings.proofs.Sound.{sound}
 use Rattle.drawings.proofs.Drawing.read.Goals as goal
 

@@ -1,4 +1,4 @@
-use Rattle.std.proofs.Common.{sym, ◌∙◌, arith}
+use Rattle.std.proofs.Common.{◌∙◌, arith}
 use Rattle.drawings.proofs.Counting.{count_yes, count_no, count_full}
 use Rattle.drawings.proofs.questions.count_in.Goals as goal
 use Rattle.drawings.proofs.questions.count_in.Goals.{then-c-road, else-c-road}

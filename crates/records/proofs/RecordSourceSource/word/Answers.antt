@@ -1,4 +1,4 @@
-use Rattle.std.proofs.Common.{◌≡◌, ℕ, ◌-◌, ◌*◌, ◌<◌, List, take, Option, sym, refl, ap, ◌∙◌, arith}
+use Rattle.std.proofs.Common.{◌≡◌, ℕ, ◌-◌, ◌*◌, List, take, Option, sym, refl, ap, ◌∙◌, arith}
 use Rattle.codec.specs.Bits.{bits_of}
 use Rattle.codec.specs.Reading.{and_then}
 use Rattle.symbols.specs.declared.symbols.Symbol.{Symbol}

@@ -1,4 +1,4 @@
-use Rattle.std.proofs.Common.{◌≡◌, ℕ, ◌-◌, true, false, List, take, sym, ap, ◌∙◌, arith}
+use Rattle.std.proofs.Common.{◌≡◌, ℕ, ◌-◌, List, take, sym, ap, ◌∙◌, arith}
 use Rattle.symbols.specs.declared.symbols.Symbol.{Symbol}
 use Rattle.records.specs.Behind.{in_run, padded}
 use Rattle.records.proofs.Cuts.{skip_on, skip_stops, skip_bad}

@@ -1,6 +1,4 @@
-use Rattle.std.proofs.Common.{◌≡◌, ◌+◌, ◌-◌, ◌*◌, ◌≤◌, length, take, drop}
-use Rattle.codec.specs.Bits.{bits_of}
-use Rattle.codec.specs.Words.{cut}
+use Rattle.std.proofs.Common.{◌≡◌, length}
 use Rattle.records.proofs.Cuts.{Cutting}
 use Rattle.records.proofs.body.read_word.Given as goal
 

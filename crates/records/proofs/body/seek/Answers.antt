@@ -1,4 +1,4 @@
-use Rattle.std.proofs.Common.{refl, ◌∙◌, arith}
+use Rattle.std.proofs.Common.{refl, arith}
 use Rattle.records.specs.Behind.{any_word}
 use Rattle.records.proofs.Cuts.{skip_on, skip_stops}
 use Rattle.records.proofs.body.seek.Goals as goal

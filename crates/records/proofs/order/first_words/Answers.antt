@@ -1,6 +1,5 @@
 use Rattle.std.proofs.Common.{ap}
-use Rattle.symbols.specs.declared.symbols.Symbol.{Symbol}
-use Rattle.std.specs.Prelude.{ℕ, ◌*◌, List}
+use Rattle.std.specs.Prelude.{◌*◌}
 use Rattle.codec.specs.Bits.{bits_of}
 use Rattle.stores.specs.Bytes.{encoded}
 use Rattle.records.specs.Stretches.{run_list}

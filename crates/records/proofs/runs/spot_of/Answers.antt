@@ -1,4 +1,4 @@
-use Rattle.std.proofs.Common.{ℕ, ◌+◌, ◌-◌, Some, sym, ap, ◌∙◌, arith}
+use Rattle.std.proofs.Common.{ℕ, ◌+◌, ◌-◌, Some, sym, ap, ◌∙◌}
 use Rattle.codec.specs.Runs.{run}
 use Rattle.records.specs.Stretches.{run_list}
 use Rattle.records.proofs.Spots.{seek_begins, seek_on, seek_here, seek_bad, seek_all}

@@ -1,7 +1,6 @@
-use Rattle.std.proofs.Common.{◌≡◌, ℕ, ◌*◌, ◌≤◌, List, ◌++◌, length, take, drop, replicate, sym, refl, ap, ◌∙◌, arith}
+use Rattle.std.proofs.Common.{◌≡◌, ℕ, ◌*◌, List, ◌++◌, length, take, drop, refl, ap, ◌∙◌, arith}
 use Rattle.std.proofs.lemmas.List.{take_at}
 use Rattle.symbols.specs.declared.symbols.Symbol.{Symbol}
-use Rattle.stores.specs.Sources.{Told}
 use Rattle.stores.proofs.Fronts.{blank_front}
 use Rattle.slots.specs.Slots.{OpensSlots}
 use Rattle.slots.specs.Places.{blanked, blank_lawful, blank_words}

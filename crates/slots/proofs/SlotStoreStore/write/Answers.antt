@@ -1,12 +1,9 @@
-use Rattle.std.proofs.Common.{◌≡◌, ℕ, ◌+◌, ◌*◌, ◌<◌, ◌≤◌, List, map, length, set, sym, refl, ap, ◌∙◌, subst, arith, rules}
+use Rattle.std.proofs.Common.{◌≡◌, ℕ, ◌+◌, ◌*◌, ◌<◌, ◌≤◌, List, map, length, set, refl, ap, ◌∙◌, arith, rules}
 use Rattle.std.proofs.lemmas.List.{map-set}
-use Rattle.symbols.specs.declared.symbols.Symbol.{Symbol}
 use Rattle.rules.specs.Words.{Drawing, drawn}
-use Rattle.plain.specs.Plain.{Plain}
-use Rattle.stores.specs.Sources.{Told, plain_told}
-use Rattle.stores.proofs.Writes.{Wrote, accepted_word, write_long, write_fine}
+use Rattle.stores.proofs.Writes.{accepted_word, write_long, write_fine}
 use Rattle.slots.specs.Slots.{slot_words, slots_told}
-use Rattle.slots.specs.Places.{row_fits, stored, Put, put_lawful, over_slot, never_full}
+use Rattle.slots.specs.Places.{row_fits, stored, put_lawful, over_slot, never_full}
 use Rattle.slots.proofs.SlotStoreStore.write.Goals as goal
 
 pub returns-then-not-fits_slot : goal.returns-then-not-fits_slot

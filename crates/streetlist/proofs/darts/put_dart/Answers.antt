@@ -1,4 +1,4 @@
-use Rattle.std.proofs.Common.{[], ◌∷◌, ◌++◌, decimal, arith}
+use Rattle.std.proofs.Common.{[], ◌∷◌, decimal, arith}
 use Rattle.symbols.specs.Symbols.{road_letter}
 use Rattle.streetlist.proofs.Putting.{put_then}
 use Rattle.streetlist.proofs.darts.put_dart.Goals as goal

@@ -1,4 +1,4 @@
-use Rattle.std.proofs.Common.{[], ◌∷◌, ◌++◌, arith, length-append}
+use Rattle.std.proofs.Common.{[], ◌∷◌, arith, length-append}
 use Rattle.model.specs.Streets.{item}
 use Rattle.stores.specs.Sources.{sheet_told}
 use Rattle.stores.proofs.Writes.{told_sheetly}

@@ -1,7 +1,7 @@
 use Rattle.std.proofs.Common.{◌++◌, arith}
 use Rattle.std.specs.List.{flat_map}
 use Rattle.symbols.specs.declared.roads.Road.TheVariants.{West, North, East, South}
-use Rattle.model.specs.Darts.{darts_on, darts_in}
+use Rattle.model.specs.Darts.{darts_in}
 use Rattle.stores.specs.Sources.{sheet_told}
 use Rattle.streetlist.specs.Lists.{begun_line}
 use Rattle.streetlist.proofs.Putting.{put_then, put_like}

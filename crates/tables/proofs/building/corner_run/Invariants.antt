@@ -1,4 +1,4 @@
-use Rattle.std.proofs.Common.{◌≡◌, ◌+◌, ◌≤◌, ◌++◌, length, take, replicate}
+use Rattle.std.proofs.Common.{◌≡◌, ◌+◌, ◌++◌, take, replicate}
 use Rattle.symbols.specs.declared.symbols.Symbol.TheVariants.{Corner}
 use Rattle.tables.proofs.building.corner_run.Given as goal
 

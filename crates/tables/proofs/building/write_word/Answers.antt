@@ -1,4 +1,4 @@
-use Rattle.std.proofs.Common.{◌≡◌, ℕ, false, ◌++◌, get_or, take, replicate, sym, ap, ◌∙◌, subst, arith}
+use Rattle.std.proofs.Common.{ℕ, false, ◌++◌, get_or, take, replicate, ap, ◌∙◌, arith}
 use Rattle.symbols.specs.declared.symbols.Symbol.TheVariants.{Corner}
 use Rattle.rules.specs.Tables.{canonical, word_of}
 use Rattle.tables.proofs.building.write_word.Goals as goal

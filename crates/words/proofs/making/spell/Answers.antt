@@ -1,4 +1,4 @@
-use Rattle.std.proofs.Common.{◌≡◌, ℕ, length, take, Some, sym, ap, ◌∙◌, subst, arith}
+use Rattle.std.proofs.Common.{◌≡◌, ℕ, take, Some, sym, ap, ◌∙◌, subst, arith}
 use Rattle.symbols.specs.Symbols.{lettered, spelt}
 use Rattle.rules.specs.Words.{judged_spelt}
 use Rattle.words.proofs.making.spell.Goals as goal
