@@ -11,7 +11,7 @@
 --   blank_now, fits_now: they fit an emptied sheet too
 use Rattle.std.proofs.Common.{◌≡◌, ℕ, zero, suc, ◌+◌, ◌-◌, ◌*◌, ◌<◌, ◌≤◌, Bool, true, false, ◌||◌, ltb, List, [], ◌∷◌, ◌++◌, map, length, get_or, take, drop, set, replicate, Some, Ok, Result, sym, refl, ap, ◌∙◌, subst, mul-le-mul, arith, length-drop}
 use lib.ListN.{length-map}
-use Rattle.std.specs.List.{AllByRecursion as All}
+use Rattle.std.specs.List.{AllByRecursion}
 use Rattle.std.proofs.ByRecursion.{All-get_or}
 use Rattle.std.proofs.lemmas.List.{at_drop_more, at_drop_all, drop_all, take_at, take_all, append-nil, length-replicate, get_or-replicate, drop-replicate, get_or-map}
 use Rattle.std.proofs.lemmas.List.Sums.{sum_by-cons, sum_by-append, sum_by-take-drop}
@@ -60,7 +60,7 @@ pub record Counting (ws : List (List Symbol)) (longest i : ℕ) (over : Bool) (t
 pub count_begins : (ws : List (List Symbol)) (longest : ℕ) → Counting ws longest 0 false 0
 count_begins ws longest = record { some = refl; sum = omega arith }
 
-symbols_few : (ws : List (List Symbol)) → All Lawful ws → symbols_of (map drawn ws) ≤ 64 * length ws
+symbols_few : (ws : List (List Symbol)) → AllByRecursion Lawful ws → symbols_of (map drawn ws) ≤ 64 * length ws
 symbols_few [] a = omega arith
 symbols_few (w ∷ ws) a = (let n = (parts w a.0).most in omega (arith, sum_by-cons symbols_in (drawn w) (map drawn ws), counted w a.0, symbols_few ws a.1))
 
@@ -223,7 +223,7 @@ accepted_fits s t e =
     record {
       width = ap (λ (x : Sheet). x.width) (sym q) ∙ b.width;
       height = ap (λ (x : Sheet). x.height) (sym q) ∙ b.height;
-      to_longest = subst (λ (x : Sheet). All (λ d. symbols_in d ≤ s.longest) x.drawings) q b.limits.to_longest;
+      to_longest = subst (λ (x : Sheet). AllByRecursion (λ d. symbols_in d ≤ s.longest) x.drawings) q b.limits.to_longest;
       to_total = subst (λ (x : Sheet). symbols_of x.drawings ≤ s.total) q b.limits.to_total;
     }
 

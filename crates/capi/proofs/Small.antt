@@ -4,7 +4,7 @@
 --   given-small: so do those of a dart that is given
 --   code_back, coded_back, codes_tell: codes and darts come back from each other
 use Rattle.std.proofs.Common.{◌≡◌, ℕ, zero, suc, ◌*◌, ◌/◌, ◌%◌, ◌<◌, ◌≤◌, true, List, [], ◌∷◌, length, get_or, IfOk, Ok, Err, Result, sym, refl, ap, ◌∙◌, arith}
-use Rattle.std.specs.List.{AllByRecursion as All}
+use Rattle.std.specs.List.{AllByRecursion}
 use Rattle.std.proofs.lemmas.Nat.{mul-le}
 use Rattle.symbols.specs.declared.refusals.Refusal.{Refusal}
 use Rattle.symbols.specs.declared.roads.Road.{Road}
@@ -22,7 +22,7 @@ use Rattle.capi.specs.Codes.{dart_code, road_in, dart_coded, CodesTell}
 abbrev pub Small : Dart → Type 0
 Small d = (d.pixel < 4096) × (d.place < 64)
 
-few_drawn : (ds : List Drawing) (p : ℕ) → All IsDrawing ds → length (get_or ds p []) ≤ 60
+few_drawn : (ds : List Drawing) (p : ℕ) → AllByRecursion IsDrawing ds → length (get_or ds p []) ≤ 60
 few_drawn [] p a = omega arith
 few_drawn (d ∷ ds) zero a = a.0.0.few
 few_drawn (d ∷ ds) (suc p) a = few_drawn ds p a.1

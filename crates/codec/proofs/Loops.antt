@@ -11,7 +11,7 @@
 --   words_from_records: the word of pixel k is `++++`, or the word of its rank among the pixels in runs
 use Rattle.std.proofs.Common.{◌≡◌, ℕ, zero, suc, ◌+◌, ◌-◌, ◌*◌, ◌/◌, ◌%◌, ◌^◌, ◌<◌, Bool, true, false, cond, eqb, List, [], ◌∷◌, ◌++◌, length, get_or, replicate, filter, sym, refl, ap, ◌∙◌, arith, length-append}
 use lib.ListN.{length-replicate}
-use Rattle.std.specs.List.{flat_map, AllByRecursion as All}
+use Rattle.std.specs.List.{flat_map, AllByRecursion}
 use Rattle.std.proofs.lemmas.Bool.{false≢true, eqb-true}
 use Rattle.std.proofs.ByRecursion.{All-weaker, all_kept_by}
 use Rattle.std.proofs.lemmas.Nat.{shr-shr}
@@ -154,7 +154,7 @@ up_to_word (s ∷ w) m v e q = by (λ k. up_to_word w k v (ends_tail s w e)) m (
     by ih (suc m) true u e q = ap (λ l. s ∷ l) (ih (left s m) (rw u (omega arith)))
     by ih (suc m) false u e q = ap (λ l. s ∷ l) (ih (left s m) (rw u q))
 
-pub words_found : {A : Type 0} (f : A → List Symbol) (xs : List A) (k : ℕ) (d : A) → All (λ x. Lawful (f x)) xs → k < length xs → up_to 4 (behind (4 * k) (flat_map f xs)) ≡ f (get_or xs k d)
+pub words_found : {A : Type 0} (f : A → List Symbol) (xs : List A) (k : ℕ) (d : A) → AllByRecursion (λ x. Lawful (f x)) xs → k < length xs → up_to 4 (behind (4 * k) (flat_map f xs)) ≡ f (get_or xs k d)
 words_found f [] k d h l = absurd (omega arith)
 words_found f (x ∷ xs) zero d h l = up_to_word (f x) 4 (flat_map f xs) (lawful_ends (f x) h.0) (sym (parts (f x) h.0).four)
 words_found f (x ∷ xs) (suc k) d h l =
@@ -174,7 +174,7 @@ words_from_records s h k = by (get_or (marks s.drawings) k false) refl
     by : (t : Bool) → get_or (marks s.drawings) k false ≡ t → word_of (drawing_at s k) ≡ cond t (up_to 4 (behind (4 * rank (marks s.drawings) k) (shown_symbols s.drawings))) (Corner ∷ Corner ∷ Corner ∷ Corner ∷ [])
     by true e =
         let p = shown_at s.drawings k e in
-        let all : All (λ d. Lawful (word_of d)) (filter shown s.drawings) =
+        let all : AllByRecursion (λ d. Lawful (word_of d)) (filter shown s.drawings) =
         All-weaker IsDrawing (λ d. Lawful (word_of d)) (λ d i. (drawing_word d i).0) (filter shown s.drawings) (all_kept_by shown IsDrawing s.drawings h.drawn) in
         sym (words_found word_of (filter shown s.drawings) (rank (marks s.drawings) k) [] all p.0 ∙ ap word_of p.1)
     by false e = ap word_of (not_shown (drawing_at s k) (sym (marked_at s.drawings k) ∙ e))

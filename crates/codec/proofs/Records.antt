@@ -12,7 +12,7 @@
 --   runs_bytes, record_bytes: a record has bytes
 use Rattle.std.proofs.Common.{◌≡◌, ℕ, zero, suc, ◌+◌, ◌*◌, ◌/◌, ◌%◌, ◌<◌, ◌≤◌, Bool, true, false, ◌&&◌, eqb, leb, List, [], ◌∷◌, ◌++◌, length, replicate, Some, sym, refl, ap, ◌∙◌, subst, zero-add, arith}
 use lib.ListN.{length-map}
-use Rattle.std.specs.List.{flat_map, AllByRecursion as All}
+use Rattle.std.specs.List.{flat_map, AllByRecursion}
 use Rattle.std.proofs.ByRecursion.{All-append}
 use Rattle.std.proofs.lemmas.Bool.{eqb-true, leb-true, le-leb, and_parts, and_from}
 use Rattle.std.proofs.lemmas.Nat.{div-mul-add, mod-mul-add, div-add-mod', mul-le}
@@ -70,7 +70,7 @@ side_parts n e =
     let p = and_parts (leb 1 n) (leb n most_side) e in
     (leb-true 1 n p.0, leb-true n most_side p.1)
 
-pub rest_read : (w h : ℕ) (ds : List Drawing) → length ds ≡ w * h → All IsDrawing ds → read_rest w h (runs 0 (marks ds)) (pack (flat_map symbol_bits (shown_symbols ds))) ≡ Some (record { width = w; height = h; drawings = ds })
+pub rest_read : (w h : ℕ) (ds : List Drawing) → length ds ≡ w * h → AllByRecursion IsDrawing ds → read_rest w h (runs 0 (marks ds)) (pack (flat_map symbol_bits (shown_symbols ds))) ≡ Some (record { width = w; height = h; drawings = ds })
 rest_read w h ds n a = rw (so, cover, r.2, drawings_read ds (replicate r.0 false) a, padding_replicate r.0 r.1)
   where
     long : length (marks ds) ≡ w * h

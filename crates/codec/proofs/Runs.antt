@@ -19,7 +19,7 @@
 use Rattle.std.proofs.Common.{◌≡◌, ℕ, zero, suc, ◌+◌, ◌<◌, ◌≤◌, Bool, true, false, cond, ◌&&◌, ◌||◌, eqb, ltb, leb, ◌⊎◌, List, [], ◌∷◌, length, get_or, sym, refl, ap, ◌∙◌, subst, inl, inr, arith}
 use mathlib.Core.List.Memᴰ
 use mathlib.Core.List.{Memᴰ}
-use Rattle.std.specs.List.{AllByRecursion as All}
+use Rattle.std.specs.List.{AllByRecursion}
 use Rattle.std.proofs.lemmas.List.{get_or_past}
 use Rattle.std.proofs.lemmas.Bool.{eqb-true, eqb-false, eq-eqb, ne_eqb, lt-ltb, le-ltb, leb-true, le-leb, lt-leb, and_parts, and_from, and_left, and_right, or_from, or_left, or_right, cases_eq, cases_lt}
 use Rattle.codec.specs.Runs.{Run, run, extend, runs, within, covered, covers, sound, Sound}
@@ -229,7 +229,7 @@ pub record Stretch (ms : List Bool) (r : Run) : Type 0 where
   pub before : (k : ℕ) → suc k ≡ r.offset → get_or ms k false ≡ false
   pub behind : get_or ms (r.offset + r.count) false ≡ false
 
-pub runs_stretch : (ms : List Bool) → All (Stretch ms) (runs 0 ms)
+pub runs_stretch : (ms : List Bool) → AllByRecursion (Stretch ms) (runs 0 ms)
 runs_stretch ms = each (runs 0 ms) (λ r m. m)
   where
     so : Sound 0 (length ms) (runs 0 ms)
@@ -244,6 +244,6 @@ runs_stretch ms = each (runs 0 ms) (λ r m. m)
       behind = marked_covered ms (r.offset + r.count) ∙ member_apart (runs 0 ms) 0 (length ms) r (r.offset + r.count) so m (inr refl);
     }
 
-    each : (rs : List Run) → ((r : Run) → Memᴰ r rs → Memᴰ r (runs 0 ms)) → All (Stretch ms) rs
+    each : (rs : List Run) → ((r : Run) → Memᴰ r rs → Memᴰ r (runs 0 ms)) → AllByRecursion (Stretch ms) rs
     each [] f = tt
     each (r ∷ rs) f = (stretch r (f r (Memᴰ.head refl)), each rs (λ q m. f q (Memᴰ.tail m)))

@@ -14,7 +14,7 @@
 --   Stood: bits that are read as drawings are those of their words
 --   drawings_stood: what is read stood there
 use Rattle.std.proofs.Common.{◌≡◌, ℕ, zero, suc, ◌≤◌, Bool, true, false, cond, ◌&&◌, ◌≢◌, ◌↔◌, List, [], ◌∷◌, ◌++◌, length, get_or, Some, Ok, filter, Option, sym, refl, ap, ◌∙◌, subst, append_assoc, arith}
-use Rattle.std.specs.List.{flat_map, AllByRecursion as All}
+use Rattle.std.specs.List.{flat_map, AllByRecursion}
 use Rattle.std.proofs.lemmas.Bool.{true≢false, false≢true, and_parts, and_from, cond-true}
 use Rattle.symbols.specs.declared.symbols.Symbol.{Symbol}
 use Rattle.symbols.specs.declared.symbols.Symbol.TheVariants.{Corner, DeadEnd, SplitOpen, SplitClose, JunctionOpen, Branch, JunctionClose}
@@ -147,7 +147,7 @@ read_more w ss d ms ds rest l q sh ih =
     let t : (lawful w && shown (drawn w)) ≡ true = and_from (lawful w) (shown (drawn w)) l (ap shown q ∙ sh) in
     rw (joined_append symbol_bits w ss, append_assoc (flat_map symbol_bits w) (flat_map symbol_bits ss) rest, cut_word w (flat_map symbol_bits ss ++ rest) l, t, ih, q)
 
-pub drawings_read : (ds : List Drawing) (rest : List Bool) → All IsDrawing ds → read_drawings (marks ds) (flat_map symbol_bits (shown_symbols ds) ++ rest) ≡ Some (ds, rest)
+pub drawings_read : (ds : List Drawing) (rest : List Bool) → AllByRecursion IsDrawing ds → read_drawings (marks ds) (flat_map symbol_bits (shown_symbols ds) ++ rest) ≡ Some (ds, rest)
 drawings_read [] rest h = refl
 drawings_read ([] ∷ ds) rest h = rw (drawings_read ds rest h.1)
 drawings_read ((c ∷ d) ∷ ds) rest h =
@@ -157,7 +157,7 @@ drawings_read ((c ∷ d) ∷ ds) rest h =
 pub record Stood (ms bs : List Bool) (x : List Drawing × List Bool) : Type 0 where
   pub marked : marks x.0 ≡ ms
   pub bits : bs ≡ flat_map symbol_bits (shown_symbols x.0) ++ x.1
-  pub each : All IsDrawing x.0
+  pub each : AllByRecursion IsDrawing x.0
 
 word_stood : (w : List Symbol) (ms bs rest : List Bool) (x : List Drawing × List Bool) → Lawful w → shown (drawn w) ≡ true → bs ≡ flat_map symbol_bits w ++ rest → Stood ms rest x → Stood (true ∷ ms) bs (drawn w ∷ x.0, x.1)
 word_stood w ms bs rest x l sh e i =

@@ -10,7 +10,7 @@
 --   read, refused: three sheets with their records; bytes that break one rule each
 --   Examples: those have these records and are read back from them, and the others are refused
 use Rattle.std.specs.Prelude.{◌≡◌, ℕ, suc, ◌+◌, ◌<◌, ◌≤◌, true, ◌≢◌, ◌↔◌, List, [], ◌∷◌, length, replicate, Some, None}
-use Rattle.std.specs.List.{AllByRecursion as All}
+use Rattle.std.specs.List.{AllByRecursion}
 use Rattle.symbols.specs.declared.symbols.Symbol.TheVariants.{Corner, DeadEnd}
 use Rattle.rules.specs.Words.{Drawing, drawn}
 use Rattle.rules.specs.Tables.{word_of}
@@ -44,7 +44,7 @@ pub record Whole (s : Sheet) (r : Run) : Type 0 where
 
 abbrev pub RunsWhole : Type 0
 RunsWhole =
-    ((s : Sheet) → Sound 0 (length s.drawings) (runs_of s) × All (Whole s) (runs_of s))
+    ((s : Sheet) → Sound 0 (length s.drawings) (runs_of s) × AllByRecursion (Whole s) (runs_of s))
     × ((s : Sheet) (k : ℕ) → (covered (runs_of s) k ≡ true) ↔ (drawing_at s k ≢ []))
     × ((d : Drawing) → IsDrawing d → (d ≡ []) ↔ (word_of d ≡ (Corner ∷ Corner ∷ Corner ∷ Corner ∷ [])))
 
@@ -91,4 +91,4 @@ refused =
     ∷ []
 
 abbrev pub Examples : Type 0
-Examples = All (λ e. (bytes_of e.0 ≡ e.1) × (sheet_of e.1 ≡ Some e.0)) read × All (λ bs. sheet_of bs ≡ None) refused
+Examples = AllByRecursion (λ e. (bytes_of e.0 ≡ e.1) × (sheet_of e.1 ≡ Some e.0)) read × AllByRecursion (λ bs. sheet_of bs ≡ None) refused

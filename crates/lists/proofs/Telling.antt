@@ -4,7 +4,7 @@
 --   sheets_same: sheets of one size with the same drawing at every pixel are equal
 --   lists_tell: the theorem
 use Rattle.std.proofs.Common.{◌≡◌, ℕ, suc, ◌*◌, ◌≤◌, true, eqb, List, [], ◌∷◌, length, Ok, Err, Result, sym, refl, ap, ◌∙◌, inl, inr, mul-le-mul, arith}
-use Rattle.std.specs.List.{AllByRecursion as All}
+use Rattle.std.specs.List.{AllByRecursion}
 use Rattle.std.proofs.lemmas.List.{ext_get_or}
 use Rattle.std.proofs.lemmas.Bool.{cond_both, both_ways}
 use Rattle.symbols.specs.declared.refusals.Refusal.{Refusal}
@@ -33,7 +33,7 @@ given_list : (r : Result (Unit {0}) Refusal) (x a : List ℕ) → given_if r x �
 given_list (Ok u) x a e = (refl, (let q : x ≡ a = cc in q))
 given_list (Err f) x a e = (let z : ◌≡◌ {A = ℕ} 0 1 = cc in absurd (omega arith))
 
-all_from_in : {A : Type 0} (P : A → Type 0) (xs : List A) → ((x : A) → In x xs → P x) → All P xs
+all_from_in : {A : Type 0} (P : A → Type 0) (xs : List A) → ((x : A) → In x xs → P x) → AllByRecursion P xs
 all_from_in P [] f = tt
 all_from_in P (x ∷ xs) f = (f x (inl refl), all_from_in P xs (λ y m. f y (inr m)))
 
@@ -62,7 +62,7 @@ chained_end s k (d ∷ []) e c =
     given_dart s e d p = (over_given (is_dart s e) (fails s (unturn s e).pixel (unturn s e).road) (unturn s e).pixel (unturn s e).road (previous_of s e) d p).0
 chained_end s k (c ∷ (d ∷ ds)) e h = chained_end s k (d ∷ ds) e h.1
 
-lines_fit : (s : Sheet) → Sheetly s → check s ≡ Ok tt → All FitsLine (street_lines s)
+lines_fit : (s : Sheet) → Sheetly s → check s ≡ Ok tt → AllByRecursion FitsLine (street_lines s)
 lines_fit s k e =
     let c = lists_cover s k e in
     all_from_in FitsLine (street_lines s) (λ l m. (

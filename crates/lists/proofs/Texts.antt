@@ -5,7 +5,7 @@
 --   texts_tell: the theorem
 use Rattle.std.proofs.Common.{◌≡◌, ℕ, ◌+◌, ◌%◌, ◌^◌, ◌<◌, Bool, true, false, cond, ◌&&◌, eqb, ltb, leb, List, [], ◌∷◌, ◌++◌, length, decimal, sym, refl, ap, ◌∙◌, subst, append_assoc, arith, length-append}
 use mathlib.Core.List.{head-eq_of_cons-eq, tail-eq_of_cons-eq}
-use Rattle.std.specs.List.{flat_map, AllByRecursion as All}
+use Rattle.std.specs.List.{flat_map, AllByRecursion}
 use Rattle.std.proofs.lemmas.Bool.{and_from, le-leb, lt-ltb, both_ways}
 use Rattle.std.proofs.lemmas.Fmt.{decimal_by_steps, decimal_nonempty, decimal_injective}
 use Rattle.symbols.specs.declared.roads.Road.{Road}
@@ -28,16 +28,16 @@ Stop (c ∷ cs) = is_digit c ≡ false
 digit_of : (n : ℕ) → n < 10 → Digit (48 + n)
 digit_of n l = and_from (leb 48 (48 + n)) (ltb (48 + n) 58) (le-leb 48 (48 + n) (omega arith)) (lt-ltb (48 + n) 58 (omega arith))
 
-all_push : (ds : List ℕ) (d : ℕ) → All Digit ds → Digit d → All Digit (ds ++ (d ∷ []))
+all_push : (ds : List ℕ) (d : ℕ) → AllByRecursion Digit ds → Digit d → AllByRecursion Digit (ds ++ (d ∷ []))
 all_push [] d h k = (k, tt)
 all_push (x ∷ ds) d h k = (h.0, all_push ds d h.1 k)
 
-decimal_digits : (n : ℕ) → n < 2 ^ 64 → All Digit (decimal n)
+decimal_digits : (n : ℕ) → n < 2 ^ 64 → AllByRecursion Digit (decimal n)
 decimal_digits =
-    decimal_by_steps (λ n ds. All Digit ds) (λ n l. (digit_of n l, tt)) (λ n ds l h. all_push ds (48 + n % 10) h (digit_of (n % 10) (omega arith)))
+    decimal_by_steps (λ n ds. AllByRecursion Digit ds) (λ n l. (digit_of n l, tt)) (λ n ds l h. all_push ds (48 + n % 10) h (digit_of (n % 10) (omega arith)))
 
 -- digits end where they end
-split : (ds es x y : List ℕ) → All Digit ds → All Digit es → Stop x → Stop y → ds ++ x ≡ es ++ y → (ds ≡ es) × (x ≡ y)
+split : (ds es x y : List ℕ) → AllByRecursion Digit ds → AllByRecursion Digit es → Stop x → Stop y → ds ++ x ≡ es ++ y → (ds ≡ es) × (x ≡ y)
 split [] [] x y a b s t e = (refl, e)
 split [] (c ∷ es) x y a b s t e = absurd (both_ways (is_digit c) (subst Stop e s) b.0)
 split (c ∷ ds) [] x y a b s t e = absurd (both_ways (is_digit c) (subst Stop (sym e) t) a.0)
@@ -98,7 +98,7 @@ spaced d = item d ++ (32 ∷ [])
 left_assoc : (d : Dart) (ds : List Dart) (x : List ℕ) → flat_map spaced (d ∷ ds) ++ x ≡ item d ++ (32 ∷ (flat_map spaced ds ++ x))
 left_assoc d ds x = simp append_assoc
 
-left_split : (ds es : List Dart) (x y : List ℕ) → All FitsItem ds → All FitsItem es → flat_map spaced ds ++ (62 ∷ x) ≡ flat_map spaced es ++ (62 ∷ y) → (ds ≡ es) × (x ≡ y)
+left_split : (ds es : List Dart) (x y : List ℕ) → AllByRecursion FitsItem ds → AllByRecursion FitsItem es → flat_map spaced ds ++ (62 ∷ x) ≡ flat_map spaced es ++ (62 ∷ y) → (ds ≡ es) × (x ≡ y)
 left_split [] [] x y a b e = (refl, tail-eq_of_cons-eq e)
 left_split [] (d ∷ es) x y a b e = absurd (item_none d (62 ∷ x) (32 ∷ (flat_map spaced es ++ (62 ∷ y))) b.0 refl (e ∙ left_assoc d es (62 ∷ y)))
 left_split (d ∷ ds) [] x y a b e = absurd (item_none d (62 ∷ y) (32 ∷ (flat_map spaced ds ++ (62 ∷ x))) a.0 refl (sym e ∙ left_assoc d ds (62 ∷ x)))
@@ -124,7 +124,7 @@ line_none l x e =
     let n : 0 ≡ length (flat_map spaced l.0 ++ (62 ∷ 32 ∷ (item l.1 ++ (10 ∷ x)))) = ap length (e ∙ line_assoc l x) in
     omega (arith, length-append (flat_map spaced l.0) (62 ∷ 32 ∷ (item l.1 ++ (10 ∷ x))))
 
-lines_same : (ls ms : List (List Dart × Dart)) → All FitsLine ls → All FitsLine ms → flat_map line_text ls ≡ flat_map line_text ms → ls ≡ ms
+lines_same : (ls ms : List (List Dart × Dart)) → AllByRecursion FitsLine ls → AllByRecursion FitsLine ms → flat_map line_text ls ≡ flat_map line_text ms → ls ≡ ms
 lines_same [] [] a b e = refl
 lines_same [] (m ∷ ms) a b e = absurd (line_none m (flat_map line_text ms) e)
 lines_same (l ∷ ls) [] a b e = absurd (line_none l (flat_map line_text ls) (sym e))

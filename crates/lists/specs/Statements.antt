@@ -8,7 +8,7 @@
 --   SameMap: two sheets have one size and the same drawing at every pixel
 --   ListsTell: lists that are given are equal exactly when their sheets are the same map
 use Rattle.std.specs.Prelude.{◌≡◌, ℕ, ◌^◌, ◌<◌, true, false, ◌↔◌, List, [], ◌∷◌, Ok}
-use Rattle.std.specs.List.{flat_map, AllByRecursion as All}
+use Rattle.std.specs.List.{flat_map, AllByRecursion}
 use Rattle.orbits.specs.Orbits.{In, Apart}
 use Rattle.model.specs.declared.darts.Dart.{Dart}
 use Rattle.model.specs.Sheets.{Sheet, Sheetly, pixels, drawing_at}
@@ -43,11 +43,11 @@ pub record FitsItem (d : Dart) : Type 0 where
   pub place : d.place < 2 ^ 32
 
 abbrev pub FitsLine : List Dart × Dart → Type 0
-FitsLine l = All FitsItem l.0 × FitsItem l.1
+FitsLine l = AllByRecursion FitsItem l.0 × FitsItem l.1
 
 abbrev pub TextsTell : Type 0
 TextsTell =
-    (w h v g : ℕ) (ls ms : List (List Dart × Dart)) → w < 2 ^ 32 → h < 2 ^ 32 → v < 2 ^ 32 → g < 2 ^ 32 → All FitsLine ls → All FitsLine ms
+    (w h v g : ℕ) (ls ms : List (List Dart × Dart)) → w < 2 ^ 32 → h < 2 ^ 32 → v < 2 ^ 32 → g < 2 ^ 32 → AllByRecursion FitsLine ls → AllByRecursion FitsLine ms
     → list_text w h ls ≡ list_text v g ms → (w ≡ v) × (h ≡ g) × (ls ≡ ms)
 
 pub record SameMap (s t : Sheet) : Type 0 where

@@ -11,7 +11,7 @@
 --   count_at: how many crossings a pixel counts on a road
 --   fails: a road is on the rim and has a crossing, or its two pixels count it differently
 use Rattle.std.specs.Prelude.{◌≡◌, ℕ, ◌+◌, ◌-◌, ◌*◌, ◌%◌, ◌≤◌, Bool, cond, not, List, [], length, ◌==◌, nat_lt, slice_index_or}
-use Rattle.std.specs.List.{AllByRecursion as All}
+use Rattle.std.specs.List.{AllByRecursion}
 use Rattle.symbols.specs.declared.roads.Road.{Road}
 use Rattle.symbols.specs.declared.roads.Road.TheVariants.{West, North, East, South}
 use Rattle.symbols.specs.Symbols.{road_code}
@@ -39,7 +39,7 @@ pub record Sheetly (s : Sheet) : Type 0 where
   pub some_height : 1 ≤ s.height
   pub most_height : s.height ≤ most_side
   pub whole : length s.drawings ≡ pixels s
-  pub drawn : All IsDrawing s.drawings
+  pub drawn : AllByRecursion IsDrawing s.drawings
 
 abbrev pub drawing_at : Sheet → ℕ → Drawing
 drawing_at s p = slice_index_or s.drawings p []

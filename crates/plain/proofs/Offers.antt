@@ -10,7 +10,7 @@
 --   words_counted: a word has as many symbols as are counted for its drawing
 --   unless_ok: a table was accepted: it has no fault
 use Rattle.std.proofs.Common.{◌≡◌, ℕ, ◌<◌, ◌≤◌, false, cond, eqb, ltb, List, [], ◌∷◌, set, is_some, Some, None, Ok, Err, Option, Result, refl, subst, inl, inr, arith}
-use Rattle.std.specs.List.{AllByRecursion as All}
+use Rattle.std.specs.List.{AllByRecursion}
 use Rattle.std.proofs.lemmas.Bool.{cases_Bool, ltb-true, ltb-false, eqb-true, and_parts, and_from, or_parts}
 use Rattle.symbols.specs.declared.refusals.Refusal.{Refusal}
 use Rattle.symbols.specs.declared.refusals.Refusal.TheVariants.{Opening, BadRecord, NoPixel, OverLongest, OverTotal, NoWord, Unlawful}
@@ -42,7 +42,7 @@ pixel_ok s p r y e =
       | inr t ↦ never_ok NoPixel y (rw t at e)
     ]
 
-none_over : (n : ℕ) (ds : List Drawing) → some_over n ds ≡ false → All (λ d. symbols_in d ≤ n) ds
+none_over : (n : ℕ) (ds : List Drawing) → some_over n ds ≡ false → AllByRecursion (λ d. symbols_in d ≤ n) ds
 none_over n [] e = tt
 none_over n (d ∷ ds) e =
     let a = or_parts (ltb n (symbols_in d)) (some_over n ds) e in
@@ -50,7 +50,7 @@ none_over n (d ∷ ds) e =
 
 pub record Limited (s : Plain) (new all ds : List Drawing) : Type 0 where
   pub same : all ≡ ds
-  pub to_longest : All (λ d. symbols_in d ≤ s.longest) new
+  pub to_longest : AllByRecursion (λ d. symbols_in d ≤ s.longest) new
   pub to_total : symbols_of all ≤ s.total
 
 pub limited_ok : (s : Plain) (new all ds : List Drawing) → limited s new all ≡ Ok ds → Limited s new all ds

@@ -10,7 +10,7 @@
 --   accepted_drawings: an accepted offer leaves its drawings
 --   accepted_changes: what an accepted call changes
 use Rattle.std.proofs.Common.{◌≡◌, ℕ, ◌*◌, ◌<◌, ◌≤◌, List, [], length, get_or, set, Ok, Err, Result, sym, refl, ap, ◌∙◌, subst, arith}
-use Rattle.std.specs.List.{AllByRecursion as All}
+use Rattle.std.specs.List.{AllByRecursion}
 use Rattle.std.proofs.lemmas.List.{length-set, get_or-set_same, get_or-set_other}
 use Rattle.std.proofs.ByRecursion.{All-set}
 use Rattle.std.proofs.lemmas.List.Sums.{sum_by-set}
@@ -60,8 +60,8 @@ step_whole s c h = left_whole s h (outcome s (offered c)) (outcome_whole s h c)
 -- the limits
 
 pub record Fits (s : Plain) (ds : List Drawing) : Type 0 where
-  pub drawn : All IsDrawing ds
-  pub to_longest : All (λ d. symbols_in d ≤ s.longest) ds
+  pub drawn : AllByRecursion IsDrawing ds
+  pub to_longest : AllByRecursion (λ d. symbols_in d ≤ s.longest) ds
   pub to_total : symbols_of ds ≤ s.total
 
 draw_fits : (s : Plain) → Keeps s → (p : ℕ) (r : Result Drawing Refusal) → ((d : Drawing) → r ≡ Ok d → IsDrawing d) → (ds : List Drawing) → outcome s (draw p r) ≡ Ok ds → Fits s ds

@@ -26,7 +26,7 @@
 --   Opens: the limits of an opening
 --   Keeps: a plain sheet keeps to its limits
 use Rattle.std.specs.Prelude.{ℕ, ◌+◌, ◌*◌, ◌≤◌, Bool, true, false, cond, ◌&&◌, ◌||◌, List, [], ◌∷◌, length, replicate, Some, None, Ok, Err, sum_by, Option, Result, ◌==◌, nat_lt, slice_set}
-use Rattle.std.specs.List.{AllByRecursion as All}
+use Rattle.std.specs.List.{AllByRecursion}
 use Rattle.symbols.specs.declared.refusals.Refusal.{Refusal}
 use Rattle.symbols.specs.declared.refusals.Refusal.TheVariants.{Opening, NoPixel, OverLongest, OverTotal, BadRecord}
 use Rattle.symbols.specs.declared.symbols.Crossing.{Crossing}
@@ -165,5 +165,5 @@ pub record Opens (width height longest total : ℕ) : Type 0 where
 pub record Keeps (s : Plain) : Type 0 where
   pub opens : Opens s.width s.height s.longest s.total
   pub sheetly : Sheetly (sheet_in s)
-  pub to_longest : All (λ d. symbols_in d ≤ s.longest) s.drawings
+  pub to_longest : AllByRecursion (λ d. symbols_in d ≤ s.longest) s.drawings
   pub to_total : symbols_of s.drawings ≤ s.total

@@ -3,7 +3,7 @@
 --   Roomy, Loaded, loads: loading a sheet's record into slots of 64 is accepted, and the slots then have that sheet
 --   roomy: slots of 64 as they are opened
 use Rattle.std.proofs.Common.{◌≡◌, ℕ, ◌*◌, ◌≤◌, Bool, false, cond, eqb, ltb, List, [], ◌∷◌, length, Some, Ok, Err, Option, Result, sym, refl, ap, ◌∙◌, arith}
-use Rattle.std.specs.List.{AllByRecursion as All}
+use Rattle.std.specs.List.{AllByRecursion}
 use Rattle.std.proofs.ByRecursion.{sum_by_le}
 use Rattle.std.proofs.lemmas.Bool.{le-ltb, eq-eqb, or_from, and_from}
 use Rattle.symbols.specs.declared.refusals.Refusal.{Refusal}
@@ -14,11 +14,11 @@ use Rattle.codec.specs.Records.{sheet_of}
 use Rattle.stores.specs.Sources.{Told, fresh, plain_told}
 use Rattle.plain.specs.Plain.{Plain, load, symbols_in, symbols_of, some_over, limited, outcome, replace, answer, step, left_by, answered, sheet_in}
 
-short_drawn : (ds : List Drawing) → All IsDrawing ds → All (λ d. symbols_in d ≤ 64) ds
+short_drawn : (ds : List Drawing) → AllByRecursion IsDrawing ds → AllByRecursion (λ d. symbols_in d ≤ 64) ds
 short_drawn [] a = tt
 short_drawn (d ∷ ds) a = (omega (arith, a.0.0.few), short_drawn ds a.1)
 
-none_over : (ds : List Drawing) → All IsDrawing ds → some_over 64 ds ≡ false
+none_over : (ds : List Drawing) → AllByRecursion IsDrawing ds → some_over 64 ds ≡ false
 none_over [] a = refl
 none_over (d ∷ ds) a = or_from (ltb 64 (symbols_in d)) (some_over 64 ds) (le-ltb 64 (symbols_in d) (omega (arith, a.0.0.few))) (none_over ds a.1)
 

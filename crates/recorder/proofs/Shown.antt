@@ -10,7 +10,7 @@
 --   putting_from, words_more, words_all: the words from a pixel on, put behind symbols, as the loop over pixels puts them
 use Rattle.std.proofs.Common.{◌≡◌, ℕ, zero, suc, ◌+◌, ◌*◌, ◌<◌, ◌≤◌, Bool, true, false, cond, ltb, ◌⊎◌, List, [], ◌∷◌, ◌++◌, map, length, get_or, take, drop, Ok, Err, filter, Result, sym, refl, ap, ◌∙◌, inl, inr, arith, length-append}
 use lib.ListN.{length-map}
-use Rattle.std.specs.List.{flat_map, AllByRecursion as All}
+use Rattle.std.specs.List.{flat_map, AllByRecursion}
 use Rattle.std.proofs.lemmas.List.{get_or_past, take_at, at_drop_more, at_drop_all}
 use Rattle.std.proofs.ByRecursion.{All-get_or}
 use Rattle.std.proofs.lemmas.Nat.{mul-le}
@@ -144,7 +144,7 @@ marks_length t = length-map (map drawn t.words) shown ∙ length-map t.words dra
 pub pixels_most : (t : Told) → LawfulTold t → t.width * t.height ≤ 4096
 pixels_most t l = mul-le t.width t.height 64 64 l.most_width l.most_height
 
-pub symbols_shown : (ws : List (List Symbol)) → All Lawful ws → shown_symbols (map drawn ws) ≡ flat_map shown_part ws
+pub symbols_shown : (ws : List (List Symbol)) → AllByRecursion Lawful ws → shown_symbols (map drawn ws) ≡ flat_map shown_part ws
 symbols_shown [] a = refl
 symbols_shown (w ∷ ws) a = by (symbols_shown ws a.1) (shown (drawn w))
   where
@@ -167,7 +167,7 @@ left_none ws i h = at_drop_all (λ (x : List (List Symbol)). length (flat_map sh
 word_most : (w : List Symbol) → Lawful w → length (shown_part w) ≤ 64
 word_most w l = cond_both (shown (drawn w)) w [] (λ (x : List Symbol). length x ≤ 64) (λ e. (parts w l).most) (λ e. omega arith)
 
-pub left_most : (ws : List (List Symbol)) → All Lawful ws → left_from ws 0 ≤ 64 * length ws
+pub left_most : (ws : List (List Symbol)) → AllByRecursion Lawful ws → left_from ws 0 ≤ 64 * length ws
 left_most [] a = omega arith
 left_most (w ∷ ws) a = omega (arith, left_more (w ∷ ws) 0 (omega arith), word_most w a.0, left_most ws a.1)
 
@@ -187,7 +187,7 @@ words_more ws all bs now n m i h e k inv =
     ∙ sym (at_drop_more (λ (x : List (List Symbol)). put_bits bs (3 * n) (flat_map symbol_bits (flat_map shown_part x))) ws i [] h)
     ∙ inv
 
-pub words_all : (ws : List (List Symbol)) (bs now : List ℕ) (n i : ℕ) → All Lawful ws → length ws ≤ i → 3 * length (shown_symbols (map drawn ws)) ≤ 8 * length bs → putting_from now n ws i ≡ putting_from bs 0 ws 0 → now ≡ packed (flat_map symbol_bits (shown_symbols (map drawn ws))) bs
+pub words_all : (ws : List (List Symbol)) (bs now : List ℕ) (n i : ℕ) → AllByRecursion Lawful ws → length ws ≤ i → 3 * length (shown_symbols (map drawn ws)) ≤ 8 * length bs → putting_from now n ws i ≡ putting_from bs 0 ws 0 → now ≡ packed (flat_map symbol_bits (shown_symbols (map drawn ws))) bs
 words_all ws bs now n i good h room e =
     let v = shown_symbols (map drawn ws) in
     sym (at_drop_all (λ (x : List (List Symbol)). put_bits now (3 * n) (flat_map symbol_bits (flat_map shown_part x))) ws i h)

@@ -4,7 +4,7 @@
 --   opened_same: a record source over the record of what is told tells the same
 --   written: the bytes that an accepted answer leaves at the front of memory
 use Rattle.std.proofs.Common.{◌≡◌, ℕ, Bool, true, false, cond, ltb, List, [], ◌∷◌, ◌++◌, map, length, take, drop, Some, None, Ok, Err, Result, sym, refl, ap, ◌∙◌, arith, MatchResult}
-use Rattle.std.specs.List.{AllByRecursion as All}
+use Rattle.std.specs.List.{AllByRecursion}
 use Rattle.std.proofs.lemmas.List.{take_at}
 use Rattle.symbols.specs.declared.refusals.Refusal.{Refusal}
 use Rattle.symbols.specs.declared.refusals.Refusal.TheVariants.{Short, BadRecord}
@@ -22,7 +22,7 @@ use Rattle.stores.proofs.Writes.{told_sheetly}
 use Rattle.records.specs.declared.RecordSource.{RecordSource}
 use Rattle.records.specs.Told.{record_told, record_lawful}
 
-words_same : (ws : List (List Symbol)) → All Lawful ws → map word_of (map drawn ws) ≡ ws
+words_same : (ws : List (List Symbol)) → AllByRecursion Lawful ws → map word_of (map drawn ws) ≡ ws
 words_same [] a = refl
 words_same (w ∷ ws) a = λ i. (word_drawing w a.0).1 i ∷ words_same ws a.1 i
 

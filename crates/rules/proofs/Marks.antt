@@ -6,7 +6,7 @@
 --   Tidy: each crossing is fine
 --   Agrees: the crossings of an open mark's group have its flag
 use Rattle.std.proofs.Common.{◌≡◌, ℕ, suc, ◌<◌, ◌≤◌, Bool, true, false, ◌||◌, eqb, ◌⊎◌, List, [], ◌∷◌, refl, arith}
-use Rattle.std.specs.List.{AllByRecursion as All}
+use Rattle.std.specs.List.{AllByRecursion}
 use Rattle.std.proofs.lemmas.Bool.{true≢false, or_from, ne_eqb}
 use Rattle.symbols.specs.declared.symbols.Mark.{Mark}
 use Rattle.symbols.specs.declared.symbols.Mark.TheVariants.{Split, Junction}
@@ -51,7 +51,7 @@ pub record Fine (r k : ℕ) (e : Crossing) (es : List Crossing) : Type 0 where
   pub three : e.road ≤ 3
   pub named : (e.group ≡ k) ⊎ ((e.group < k) × (mentions k es ≡ false))
   pub nested : (h : ℕ) → e.group < h → h < k → mentions h es ≡ false
-  pub agree : All (λ (x : Crossing). x.group ≡ e.group → x.vertex ≡ e.vertex) es
+  pub agree : AllByRecursion (λ (x : Crossing). x.group ≡ e.group → x.vertex ≡ e.vertex) es
   pub opened : e.vertex ≡ false → e.group ≡ k → mentions k es ≡ true
   pub closed : e.vertex ≡ false → e.group < k → mentions e.group es ≡ false
 
@@ -66,7 +66,7 @@ flag (Junction g) = true
 -- the crossings of an open mark's group have its flag
 abbrev pub Agrees : List Mark → List Crossing → Type 0
 Agrees [] es = Unit {0}
-Agrees (m ∷ st) es = All (λ (x : Crossing). x.group ≡ mark_at m → x.vertex ≡ flag m) es × Agrees st es
+Agrees (m ∷ st) es = AllByRecursion (λ (x : Crossing). x.group ≡ mark_at m → x.vertex ≡ flag m) es × Agrees st es
 
 pub agrees_tail : (st : List Mark) (e : Crossing) (es : List Crossing) → Agrees st (e ∷ es) → Agrees st es
 agrees_tail [] e es a = tt

@@ -3,7 +3,7 @@
 --   Answered: what reading symbols has answered
 --   comes_back, draws_tidy: a word of four corners is the word of what it draws, and that is tidy
 use Rattle.std.proofs.Common.{◌≡◌, ℕ, suc, ◌+◌, ◌-◌, ◌<◌, ◌≤◌, Bool, true, false, ◌||◌, eqb, List, [], ◌∷◌, length, is_some, Some, None, Option, sym, refl, ap, ◌∙◌, subst, inl, inr, arith}
-use Rattle.std.specs.List.{AllByRecursion as All}
+use Rattle.std.specs.List.{AllByRecursion}
 use Rattle.std.proofs.lemmas.Bool.{true≢false, false≢true, or_left, or_parts, and_from, and_parts, ne_eqb, eq-eqb, eqb-true, eqb-false, leb-true, le-leb}
 use Rattle.symbols.specs.declared.symbols.Symbol.{Symbol}
 use Rattle.symbols.specs.declared.symbols.Symbol.TheVariants.{Corner, DeadEnd, SplitOpen, SplitClose, JunctionOpen, Branch, JunctionClose}
@@ -60,7 +60,7 @@ some_corner (JunctionOpen ∷ w) h = some_corner w h
 some_corner (Branch ∷ w) h = some_corner w h
 some_corner (JunctionClose ∷ w) h = some_corner w h
 
-none_agrees : (g : ℕ) (v : Bool) (es : List Crossing) → mentions g es ≡ false → All (λ (x : Crossing). x.group ≡ g → x.vertex ≡ v) es
+none_agrees : (g : ℕ) (v : Bool) (es : List Crossing) → mentions g es ≡ false → AllByRecursion (λ (x : Crossing). x.group ≡ g → x.vertex ≡ v) es
 none_agrees g v [] h = tt
 none_agrees g v (e ∷ es) h =
     let p = or_parts (eqb g e.group) (mentions g es) h in

@@ -10,7 +10,7 @@
 use Rattle.std.specs.Prelude.{◌≡◌, ℕ, suc, ◌+◌, ◌-◌, ◌*◌, ◌<◌, ◌≤◌, Bool, true, false, ◌≢◌, List, [], ◌++◌, map, length, take, drop, replicate, is_some, Ok, Err, nat_lt, slice_index_or, slice_set, refl}
 use Rattle.std.proofs.Common.{sym, ap, subst, ◌∙◌, inl, inr, mul_comm, add-mul, mul-le-mul_left, mul-le-mul_right, arith, length-append}
 use borrow.Rule.Slice.PartMut.{put_mid}
-use Rattle.std.specs.List.{AllByRecursion as All}
+use Rattle.std.specs.List.{AllByRecursion}
 use Rattle.std.proofs.ByRecursion.{All-from_get_or, All-set, sum_by_le}
 use Rattle.std.proofs.lemmas.List.{take_at, length-take, get_or-set_same, get_or-set_other, get_or-replicate, ext_get_or, length-set, take-replicate, drop-replicate, take-append-le, drop-append-le, length-take-le, length-drop, length-map, length-replicate}
 use Rattle.std.proofs.lemmas.Slice.{between_is, take-put_mid_below, drop-put_mid, between-put_mid}
@@ -175,7 +175,7 @@ pub slots_keep : (w h n : ℕ) (bs : List ℕ) → Sides w h → Slots w h n bs 
 slots_keep w h n bs d s =
     let t : Told = slots_told w h n bs in
     let l = slots_lawful w h n bs d s in
-    let short : All (λ (v : List Symbol). length v ≤ n) t.words =
+    let short : AllByRecursion (λ (v : List Symbol). length v ≤ n) t.words =
     All-from_get_or (λ (v : List Symbol). length v ≤ n) t.words [] (λ i b.
     let c : i < w * h = omega (arith, length_words n (w * h) bs) in
     subst (λ (v : List Symbol). length v ≤ n) (sym (word_there n (w * h) bs i c)) (slot_short n bs i)) in

@@ -8,7 +8,7 @@
 --   keeps_told: words that keep to a longest and a total
 use Rattle.std.proofs.Common.{◌≡◌, ℕ, ◌*◌, ◌<◌, ◌≤◌, true, false, ◌||◌, ltb, List, [], ◌∷◌, map, length, set, Ok, Err, Result, sym, refl, ap, ◌∙◌, subst, arith}
 use lib.ListN.{length-map}
-use Rattle.std.specs.List.{AllByRecursion as All}
+use Rattle.std.specs.List.{AllByRecursion}
 use Rattle.std.proofs.lemmas.Bool.{lt-ltb, le-ltb, or_left, or_from}
 use Rattle.symbols.specs.declared.refusals.Refusal.{Refusal}
 use Rattle.symbols.specs.declared.refusals.Refusal.TheVariants.{NoPixel, OverLongest, OverTotal}
@@ -28,7 +28,7 @@ accepted_word w v e =
     let j = judged_word w v (sym e) in
     (ap Ok j.0 ∙ e, subst Lawful (sym j.0) j.1)
 
-drawn_all : (ws : List (List Symbol)) → All Lawful ws → All IsDrawing (map drawn ws)
+drawn_all : (ws : List (List Symbol)) → AllByRecursion Lawful ws → AllByRecursion IsDrawing (map drawn ws)
 drawn_all [] a = tt
 drawn_all (w ∷ ws) a = (let r = words_come_back w a.0 in ((r.1, r.2), drawn_all ws a.1))
 
@@ -81,11 +81,11 @@ module _ (t : Told) (l n : ℕ) where
 
 -- all words
 
-pub drawn_short : (ws : List (List Symbol)) (m : ℕ) → All Lawful ws → All (λ w. length w ≤ m) ws → All (λ d. symbols_in d ≤ m) (map drawn ws)
+pub drawn_short : (ws : List (List Symbol)) (m : ℕ) → AllByRecursion Lawful ws → AllByRecursion (λ w. length w ≤ m) ws → AllByRecursion (λ d. symbols_in d ≤ m) (map drawn ws)
 drawn_short [] m a b = tt
 drawn_short (w ∷ ws) m a b = (omega (arith, counted w a.0, b.0), drawn_short ws m a.1 b.1)
 
-pub keeps_told : (t : Told) (l n : ℕ) → LawfulTold t → 4 ≤ l → 4 * (t.width * t.height) ≤ n → All (λ w. length w ≤ l) t.words → symbols_of (map drawn t.words) ≤ n → Keeps (plain_told t l n)
+pub keeps_told : (t : Told) (l n : ℕ) → LawfulTold t → 4 ≤ l → 4 * (t.width * t.height) ≤ n → AllByRecursion (λ w. length w ≤ l) t.words → symbols_of (map drawn t.words) ≤ n → Keeps (plain_told t l n)
 keeps_told t l n k a b c d = record {
   opens = record {
     some_width = k.some_width;

@@ -10,7 +10,7 @@
 --   plain_told: the plain sheet of them, with a longest and a total
 --   ToldSheetly: the drawings of lawful words make a sheet
 use Rattle.std.specs.Prelude.{◌≡◌, ℕ, ◌*◌, ◌≤◌, cond, List, [], ◌∷◌, map, length, replicate, Err, Result, nat_lt, slice_index_or}
-use Rattle.std.specs.List.{AllByRecursion as All}
+use Rattle.std.specs.List.{AllByRecursion}
 use Rattle.symbols.specs.declared.refusals.Refusal.{Refusal}
 use Rattle.symbols.specs.declared.refusals.Refusal.TheVariants.{NoPixel}
 use Rattle.symbols.specs.declared.symbols.Symbol.{Symbol}
@@ -31,7 +31,7 @@ pub record LawfulTold (t : Told) : Type 0 where
   pub some_height : 1 ≤ t.height
   pub most_height : t.height ≤ most_side
   pub whole : length t.words ≡ t.width * t.height
-  pub words : All Lawful t.words
+  pub words : AllByRecursion Lawful t.words
 
 abbrev pub empty_word : List Symbol
 empty_word = Corner ∷ Corner ∷ Corner ∷ Corner ∷ []

@@ -16,7 +16,7 @@
 --   blank_bytes, Blanked, blank_cuts: the words of corners only
 use Rattle.std.specs.Prelude.{◌≡◌, ℕ, zero, suc, ◌+◌, ◌*◌, ◌<◌, ◌≤◌, true, List, [], ◌∷◌, ◌++◌, map, length, get_or, take, drop, set, replicate, slice_index_or, slice_set, refl}
 use Rattle.std.proofs.Common.{sym, ap, subst, ◌∙◌, ⊎_elim, append_assoc, arith, add-one, length-set, length-drop, length-append}
-use Rattle.std.specs.List.{AllByRecursion as All}
+use Rattle.std.specs.List.{AllByRecursion}
 use Rattle.std.proofs.ByRecursion.{All-set, All-weaker}
 use Rattle.std.proofs.lemmas.List.{take_at, drop_at, drop-drop, take-append-drop, set_split, length-take-le, drop_more, get_or-set_same, get_or-set_other, get_or-replicate, length-replicate, map-append, map-set, take-map, get_or-map, length-map}
 use Rattle.std.proofs.lemmas.List.Sums.{sum_by-cons}
@@ -276,14 +276,14 @@ place_sets n i bs w new at old tail h each good p is =
       each = each_cuts n new (subst Known (sym cut) good-set);
     }
 
-pub symbols_told : (ws : List (List Symbol)) → All Lawful ws → symbols_of (map drawn ws) ≡ lengths ws
+pub symbols_told : (ws : List (List Symbol)) → AllByRecursion Lawful ws → symbols_of (map drawn ws) ≡ lengths ws
 symbols_told [] a = refl
 symbols_told (w ∷ ws) a = sum_by-cons symbols_in (drawn w) (map drawn ws) ∙ omega (arith, counted w a.0, symbols_told ws a.1)
 
 pub word_short : (w : List Symbol) → Lawful w → length w ≤ 64
 word_short w l = (parts w l).most
 
-pub all_short : (ws : List (List Symbol)) → All Lawful ws → All (λ w. length w ≤ 64) ws
+pub all_short : (ws : List (List Symbol)) → AllByRecursion Lawful ws → AllByRecursion (λ w. length w ≤ 64) ws
 all_short ws a = All-weaker Lawful (λ w. length w ≤ 64) word_short ws a
 
 pub sum_placed : (n i : ℕ) (bs : List ℕ) (w : List Symbol) (at old tail : ℕ) → i < n → EachLawful n bs → Lawful w → Place n i bs at old tail → symbols_of (slice_set (map drawn (strip_words n bs)) i (drawn w)) ≡ at + length w + tail

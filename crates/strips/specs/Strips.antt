@@ -9,7 +9,7 @@
 --   strip_count, strip_all, strip_lawful: there is a lawful word for each pixel
 use Rattle.std.specs.Prelude.{◌≡◌, ℕ, zero, suc, ◌+◌, ◌*◌, ◌<◌, ◌≤◌, true, List, [], ◌∷◌, ◌++◌, length, take, drop, slice_index_or, refl}
 use Rattle.std.proofs.Common.{ap, arith}
-use Rattle.std.specs.List.{AllByRecursion as All}
+use Rattle.std.specs.List.{AllByRecursion}
 use Rattle.std.proofs.ByRecursion.{All-from_get_or}
 use Rattle.symbols.specs.declared.symbols.Symbol.{Symbol}
 use Rattle.rules.specs.Words.{lawful, Lawful}
@@ -47,7 +47,7 @@ pub strip_count : (n : ℕ) (bs : List ℕ) → length (strip_words n bs) ≡ n
 strip_count zero bs = refl
 strip_count (suc n) bs = ap suc (strip_count n (drop (length (front_word bs)) bs))
 
-pub strip_all : (n : ℕ) (bs : List ℕ) → EachLawful n bs → All Lawful (strip_words n bs)
+pub strip_all : (n : ℕ) (bs : List ℕ) → EachLawful n bs → AllByRecursion Lawful (strip_words n bs)
 strip_all n bs e = All-from_get_or Lawful (strip_words n bs) [] (λ i l. e i (omega (arith, strip_count n bs)))
 
 pub strip_lawful : (w h room : ℕ) (bs : List ℕ) → Sides w h room → EachLawful (w * h) bs → LawfulTold (strip_told w h bs)
