@@ -5,7 +5,6 @@
 --   too_long: a text of more than 64 bytes is no word
 --   write_more: one turn of the loop that writes letters
 --   holds_word: what is held of a lawful word
---   crossings_decided: crossings compared are told equal exactly where they are
 use Rattle.std.proofs.Common.{◌≡◌, ℕ, suc, ◌+◌, ◌<◌, ◌≤◌, Bool, true, false, cond, ◌&&◌, ltb, leb, List, [], ◌∷◌, ◌++◌, length, get_or, take, drop, set, is_some, Some, None, Ok, Err, Option, Result, sym, refl, ap, ◌∙◌, subst, inl, inr, arith}
 use Rattle.std.proofs.lemmas.List.{take_at, take_more_set, map_more, append-nil, append_assoc, at_drop_more, at_drop_all}
 use Rattle.std.proofs.lemmas.Bool.{lt-leb, le-ltb, ltb-false, cases_Bool}
@@ -20,10 +19,6 @@ use Rattle.rules.specs.Words.{shaped, drawing_of, lawful, Lawful, judged, judged
 use Rattle.rules.proofs.Words.{parts}
 use Rattle.rules.proofs.Correspondence.{judged_ok}
 use Rattle.drawings.specs.Drawings.{draws}
-use Rattle.words.specs.Held.{same_crossing}
-use Rattle.std.specs.Prelude.{Decides}
-use Rattle.std.specs.Cmp.{booleans_Decides}
-use Rattle.std.proofs.lemmas.Bool.Decides.{Decides-like, Decides-and, Decides-eqb}
 
 drawn_lawful : (a b : Bool) (w : List Symbol) (d : List Crossing) → Ok d ≡ draws (cond a (cond b (Ok w) (Err Unlawful)) (Err NoWord)) → (a && b) ≡ true
 drawn_lawful true true w d e = refl
@@ -104,11 +99,3 @@ holds_word w memory held n d j a m =
     let l = judged_drawn w d j in
     let k : take n held ≡ w = ap (λ (x : ℕ). take x held) f.0 ∙ ap (take (length w)) m ∙ kept w memory f.1 in
     (omega (arith, f.0, (parts w l).most), subst Lawful (sym k) l, ap Ok k ∙ sym (judged_ok w l))
-
--- Comparing.
-
-pub crossings_decided : (x y : Crossing) → Decides (same_crossing x y) (x ≡ y)
-crossings_decided x y = Decides-like (same_crossing x y)
-    (λ (e : (x.road ≡ y.road) × ((x.group ≡ y.group) × (x.vertex ≡ y.vertex))). λ i. record { road = e.0 i; group = e.1.0 i; vertex = e.1.1 i })
-    (λ (e : x ≡ y). (ap (λ (c : Crossing). c.road) e, (ap (λ (c : Crossing). c.group) e, ap (λ (c : Crossing). c.vertex) e)))
-    (Decides-and _ _ (Decides-eqb x.road y.road) (Decides-and _ _ (Decides-eqb x.group y.group) (booleans_Decides x.vertex y.vertex)))
