@@ -1,4 +1,4 @@
-// Calls for C: opposite, next and previous on the bytes of a record and the code of a dart. They allocate nothing.
+// Opposite, next and previous by numbers: on the bytes of a record and the code of a dart. They allocate nothing.
 #![tactic(auto)]
 
 ghost use Rattle.std.specs.Prelude.{◌≡◌, ◌<◌, pos, neg_ℤ, IfOk};

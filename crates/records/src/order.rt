@@ -146,6 +146,7 @@ pub struct Words<'a> {
 }
 
 // The words of a record from its first pixel on.
+#[tactic(auto, using(crate::proofs::Ahead::ahead_first))]
 pub(crate) fn first_words<'a>(source: RecordSource<'a>) -> Words<'a>
     ensures source { result.source ≡ source.entry }
     ensures pixel { result.place.pixel ≡ 0 }
