@@ -5,18 +5,17 @@ ghost use Rattle.std.specs.Prelude.{◌≡◌, ◌≤◌, length, IfOk, Decides,
 ghost use Rattle.symbols.specs.declared.refusals.Refusal.TheVariants.{Opening};
 ghost use Rattle.symbols.specs.Refusals.{fill_answer, filled};
 ghost use Rattle.codec.specs.Records.{bytes_of};
-ghost use Rattle.stores.specs.Sources.{sheet_told};
+ghost use Rattle.stores.specs.Sources.{plain_kept, sheet_told};
 ghost use Rattle.streetlist.specs.Lists.{list_answer, list_memory};
 ghost use Rattle.plain.specs.Plain.{run};
-ghost use Rattle.calls.specs.Kept.{plain_kept};
 ghost use Rattle.calls.specs.Scripts.{calls_of};
 ghost use Rattle.apart.specs.Fronts.{front, Compared};
 ghost use Rattle.apart.specs.Statements.{RefusedOpening, ToldApart};
 
-use calls::{Call, replay_calls};
+use calls::Call;
 use openings::Opens;
 use recorder::write_record;
-use stores::{Source, Store, Unopened};
+use stores::{Source, Store, Unopened, replay};
 use streetlist::street_list;
 use symbols::Refusal;
 
@@ -49,10 +48,10 @@ fn same_fronts(
 
 // Makes the list and the record of a source.
 fn make<S: Source>(source: &S, list: &mut [u8], file: &mut [u8]) -> Made
-    ensures listed { result.listed ≡ list_answer (sheet_told (S.Source.told source.now)) list.old }
-    ensures list { list.new ≡ list_memory (sheet_told (S.Source.told source.now)) list.old }
-    ensures recorded { result.recorded ≡ fill_answer (bytes_of (sheet_told (S.Source.told source.now))) file.old }
-    ensures file { file.new ≡ filled (bytes_of (sheet_told (S.Source.told source.now))) file.old }
+    ensures listed { result.listed ≡ list_answer (sheet_told (S.told source.now)) list.old }
+    ensures list { list.new ≡ list_memory (sheet_told (S.told source.now)) list.old }
+    ensures recorded { result.recorded ≡ fill_answer (bytes_of (sheet_told (S.told source.now))) file.old }
+    ensures file { file.new ≡ filled (bytes_of (sheet_told (S.told source.now))) file.old }
 {
     let listed = street_list(source, list);
     let recorded = write_record(source, file);
@@ -62,12 +61,12 @@ fn make<S: Source>(source: &S, list: &mut [u8], file: &mut [u8]) -> Made
 // Replays a script on a store, and makes its list and its record.
 fn play<S: Store>(store: &mut S, script: &[Call<'_>], list: &mut [u8], file: &mut [u8]) -> Made
     ensures after { plain_kept S.told S.longest S.total store.new ≡ run (plain_kept S.told S.longest S.total store.old) (calls_of script.now) }
-    ensures listed { result.listed ≡ list_answer (sheet_told (S.Source.told store.new)) list.old }
-    ensures list { list.new ≡ list_memory (sheet_told (S.Source.told store.new)) list.old }
-    ensures recorded { result.recorded ≡ fill_answer (bytes_of (sheet_told (S.Source.told store.new))) file.old }
-    ensures file { file.new ≡ filled (bytes_of (sheet_told (S.Source.told store.new))) file.old }
+    ensures listed { result.listed ≡ list_answer (sheet_told (S.told store.new)) list.old }
+    ensures list { list.new ≡ list_memory (sheet_told (S.told store.new)) list.old }
+    ensures recorded { result.recorded ≡ fill_answer (bytes_of (sheet_told (S.told store.new))) file.old }
+    ensures file { file.new ≡ filled (bytes_of (sheet_told (S.told store.new))) file.old }
 {
-    replay_calls(store, script);
+    replay(store, script);
     make(store, list, file)
 }
 
@@ -84,10 +83,10 @@ pub fn tell_apart<A: Opens, B: Opens>(
     right_file: &mut [u8],
 ) -> Result<Verdict, Unopened>
     ensures { MatchResult result
-        (λ v. ToldApart (A.Opens.limits left) (calls_of left_calls.now) (B.Opens.limits right) (calls_of right_calls.now) v
+        (λ v. ToldApart (A.limits left) (calls_of left_calls.now) (B.limits right) (calls_of right_calls.now) v
         left_list.old left_list.new left_file.old left_file.new
         right_list.old right_list.new right_file.old right_file.new)
-        (λ e. RefusedOpening (A.Opens.limits left) (B.Opens.limits right) (A.Opens.memory left) (B.Opens.memory right) e.memory.items
+        (λ e. RefusedOpening (A.limits left) (B.limits right) (A.memory left) (B.memory right) e.memory.items
         × (e.refusal ≡ Opening)
         × (left_list.new ≡ left_list.old) × (left_file.new ≡ left_file.old)
         × (right_list.new ≡ right_list.old) × (right_file.new ≡ right_file.old)) }

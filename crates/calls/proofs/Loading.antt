@@ -1,24 +1,24 @@
 -- The words of a record, counted and written one after another.
 --   word_lawful: a record's words are lawful
---   next_word, next_len, next_on: the word that a pass over a record tells next, and the pixel behind it
---   Counting: the words before a pixel are counted
+--   Counting: all words but those that are left are counted
 --   count_begins, count_few, count_on, count_all: the loop's start, the bound of its sum, its turn, and its end
+--   told_few: how many symbols words have together
 --   redrawn: the drawings before a pixel are replaced
---   redraw_begins, empty_more, redraw_all: the start of a loop that replaces them, a turn that empties a pixel, and its end
---   write_copied: a word is written from the front of memory that it was copied to
---   same_pixels, new_length, old_length, write_more: a turn that writes the word of a record over an empty pixel
+--   empty_more, redraw_all: a turn that empties a pixel, and the end of a loop that replaces them
+--   Passing: the pixels before one have the words of a record
+--   same_pixels, new_length, old_length, write_more: a word of a record written over an empty pixel
+--   pass_more, pass_all, pass_none: a turn of the loop over the words of a record, and its end
 --   accepted_fits: words that are accepted fit
 --   blank_now, fits_now: they fit an emptied sheet too
-use Rattle.std.proofs.Common.{◌≡◌, ℕ, zero, suc, ◌+◌, ◌-◌, ◌*◌, ◌<◌, ◌≤◌, Bool, true, false, ◌||◌, ltb, List, [], ◌∷◌, ◌++◌, map, length, get_or, take, drop, set, replicate, Some, Ok, Result, sym, refl, ap, ◌∙◌, subst, mul-le-mul, arith, length-drop}
+use Rattle.std.proofs.Common.{◌≡◌, ℕ, zero, suc, ◌+◌, ◌-◌, ◌*◌, ◌<◌, ◌≤◌, Bool, true, false, ◌||◌, ltb, List, [], ◌∷◌, ◌++◌, map, length, get_or, take, drop, set, replicate, Some, Ok, Result, sym, refl, ap, ◌∙◌, subst, inl, inr, max, mul-le-mul, arith, length-drop}
 use lib.ListN.{length-map}
 use Rattle.std.specs.List.{AllByRecursion}
 use Rattle.std.proofs.ByRecursion.{All-get_or}
-use Rattle.std.proofs.lemmas.List.{at_drop_more, at_drop_all, drop_all, take_at, take_all, append-nil, length-replicate, get_or-replicate, drop-replicate, get_or-map}
+use Rattle.std.proofs.lemmas.List.{drop_more, drop_all, take_all, append-nil, length-replicate, get_or-replicate, drop-replicate, get_or-map}
 use Rattle.std.proofs.lemmas.List.Sums.{sum_by-cons, sum_by-append, sum_by-take-drop}
-use Rattle.std.proofs.lemmas.Bool.{lt-ltb, le-ltb, cond-true, cond-false, or_from}
+use Rattle.std.proofs.lemmas.Bool.{cases_lt, lt-ltb, le-ltb, cond-true, cond-false, or_from}
 use Rattle.symbols.specs.declared.refusals.Refusal.{Refusal}
 use Rattle.symbols.specs.declared.symbols.Symbol.{Symbol}
-use Rattle.symbols.specs.Refusals.{filled}
 use Rattle.rules.specs.Words.{Drawing, Lawful, drawn, judged}
 use Rattle.model.specs.Sheets.{Sheet}
 use Rattle.rules.proofs.Correspondence.{judged_ok}
@@ -30,85 +30,95 @@ use Rattle.codec.proofs.Reading.{some_inj}
 use Rattle.stores.specs.Sources.{Told, LawfulTold, word_at, sheet_told}
 use Rattle.stores.proofs.Fronts.{put_more}
 use Rattle.stores.proofs.Writes.{counted}
-use Rattle.records.specs.declared.RecordSource.{RecordSource}
-use Rattle.records.specs.Source.{source_told, next_pixel}
 use Rattle.calls.specs.Kept.{emptied}
 use Rattle.calls.specs.Fits.{Fits}
 
 pub word_lawful : (t : Told) → LawfulTold t → (p : ℕ) → p < t.width * t.height → Lawful (word_at t p)
 word_lawful t l p h = All-get_or Lawful t.words p [] (omega (arith, l.whole)) l.words
 
--- a pass over the words of a record
-
-pub next_word : (a b : RecordSource) (p i : ℕ) → a ≡ b → p ≡ i → word_at (source_told a) p ≡ word_at (source_told b) i
-next_word a b p i e f = ap (λ (x : RecordSource). word_at (source_told x) p) e ∙ ap (λ (x : ℕ). word_at (source_told b) x) f
-
-pub next_len : (a b : RecordSource) (p i n : ℕ) → a ≡ b → p ≡ i → n ≡ length (word_at (source_told a) p) → n ≡ length (word_at (source_told b) i)
-next_len a b p i n e f h = h ∙ ap length (next_word a b p i e f)
-
-pub next_on : (a b : RecordSource) (p i q : ℕ) → a ≡ b → p ≡ i → i < (source_told b).width * (source_told b).height → q ≡ next_pixel (source_told a) p → q ≡ i + 1
-next_on a b p i q e f h n =
-    let y = lt-ltb i ((source_told b).width * (source_told b).height) h in
-    n ∙ ap (λ (x : RecordSource). next_pixel (source_told x) p) e ∙ ap (λ (x : ℕ). next_pixel (source_told b) x) f ∙ rw y
-
 -- counting
 
-pub record Counting (ws : List (List Symbol)) (longest i : ℕ) (over : Bool) (total : ℕ) : Type 0 where
-  pub some : (over || some_over longest (map drawn (drop i ws))) ≡ some_over longest (map drawn ws)
-  pub sum : total + symbols_of (map drawn (drop i ws)) ≡ symbols_of (map drawn ws)
+-- the words ws but for those that are left are counted
+pub record Counting (ws left : List (List Symbol)) (longest total : ℕ) : Type 0 where
+  pub over : (n : ℕ) → some_over n (map drawn ws) ≡ (ltb n longest || some_over n (map drawn left))
+  pub sum : total + symbols_of (map drawn left) ≡ symbols_of (map drawn ws)
+  pub good : AllByRecursion Lawful left
 
-pub count_begins : (ws : List (List Symbol)) (longest : ℕ) → Counting ws longest 0 false 0
-count_begins ws longest = record { some = refl; sum = omega arith }
+pub count_begins : (ws left : List (List Symbol)) → left ≡ ws → AllByRecursion Lawful ws → Counting ws left 0 0
+count_begins ws left e good =
+    rw e record {
+      over = λ n. ap (λ (x : Bool). x || some_over n (map drawn ws)) (sym (le-ltb n 0 (omega arith)));
+      sum = omega arith;
+      good = good;
+    }
 
 symbols_few : (ws : List (List Symbol)) → AllByRecursion Lawful ws → symbols_of (map drawn ws) ≤ 64 * length ws
 symbols_few [] a = omega arith
 symbols_few (w ∷ ws) a = (let n = (parts w a.0).most in omega (arith, sum_by-cons symbols_in (drawn w) (map drawn ws), counted w a.0, symbols_few ws a.1))
 
-module _ (t : Told) (l : LawfulTold t) (longest i n : ℕ) (h : i < t.width * t.height) (e : n ≡ length (word_at t i)) where
-  within : i < length t.words
-  within = omega (arith, l.whole)
+pub told_few : (t : Told) → LawfulTold t → symbols_of (map drawn t.words) ≤ 64 * 4096
+told_few t l =
+    let p : t.width * t.height ≤ 64 * 64 = mul-le-mul l.most_width l.most_height in
+    omega (arith, symbols_few t.words l.words, l.whole)
 
-  long : symbols_in (drawn (word_at t i)) ≡ n
-  long = counted (word_at t i) (word_lawful t l i h) ∙ sym e
+ltb_max : (n a b : ℕ) → ltb n (max a b) ≡ (ltb n a || ltb n b)
+ltb_max n a b =
+    elim (cases_lt n b) [
+      | inl h ↦ rw (lt-ltb n b h, lt-ltb n (max a b) (omega arith)) (sym (or_true (ltb n a)))
+      | inr h ↦
+          elim (cases_lt n a) [
+            | inl k ↦ rw (lt-ltb n a k, lt-ltb n (max a b) (omega arith)) refl
+            | inr k ↦ rw (le-ltb n a k, le-ltb n b h, le-ltb n (max a b) (omega arith)) refl
+          ]
+    ]
+  where
+    or_true : (x : Bool) → (x || true) ≡ true
+    or_true true = refl
+    or_true false = refl
 
-  sum_more : symbols_of (map drawn (drop i t.words)) ≡ n + symbols_of (map drawn (drop (i + 1) t.words))
+module _ (ws left rest : List (List Symbol)) (w : List Symbol) (longest total len : ℕ) (is : left ≡ w ∷ rest) (e : len ≡ length w) (v : Counting ws left longest total) where
+  good : AllByRecursion Lawful (w ∷ rest)
+  good = subst (AllByRecursion Lawful) is v.good
+
+  long : symbols_in (drawn w) ≡ len
+  long = counted w good.0 ∙ sym e
+
+  sum_more : symbols_of (map drawn left) ≡ len + symbols_of (map drawn rest)
   sum_more =
-      at_drop_more (λ xs. symbols_of (map drawn xs)) t.words i [] within
-      ∙ sum_by-cons symbols_in (drawn (word_at t i)) (map drawn (drop (i + 1) t.words))
-      ∙ ap (λ (x : ℕ). x + symbols_of (map drawn (drop (i + 1) t.words))) long
+      ap (λ (xs : List (List Symbol)). symbols_of (map drawn xs)) is
+      ∙ sum_by-cons symbols_in (drawn w) (map drawn rest)
+      ∙ ap (λ (x : ℕ). x + symbols_of (map drawn rest)) long
 
-  some_more : some_over longest (map drawn (drop i t.words)) ≡ (ltb longest n || some_over longest (map drawn (drop (i + 1) t.words)))
-  some_more =
-      at_drop_more (λ xs. some_over longest (map drawn xs)) t.words i [] within
-      ∙ ap (λ (x : ℕ). ltb longest x || some_over longest (map drawn (drop (i + 1) t.words))) long
+  some_more : (n : ℕ) → some_over n (map drawn left) ≡ (ltb n len || some_over n (map drawn rest))
+  some_more n =
+      ap (λ (xs : List (List Symbol)). some_over n (map drawn xs)) is
+      ∙ ap (λ (x : ℕ). ltb n x || some_over n (map drawn rest)) long
 
-  pub count_few : (over : Bool) (total : ℕ) → Counting t.words longest i over total → total + n ≤ 64 * 4096
-  count_few over total v =
-      let m = symbols_few t.words l.words in
-      let s = sum_more in
-      let p : t.width * t.height ≤ 64 * 64 = mul-le-mul l.most_width l.most_height in
-      omega (arith, v.sum, l.whole)
+  pub count_few : symbols_of (map drawn ws) ≤ 64 * 4096 → total + len ≤ 64 * 4096
+  count_few few = (let s = sum_more in omega (arith, v.sum))
 
-  pub count_on : (over : Bool) (total : ℕ) (over' : Bool) (total' : ℕ) → over' ≡ (over || ltb longest n) → total' ≡ total + n → Counting t.words longest i over total → Counting t.words longest (i + 1) over' total'
-  count_on over total over' total' a b v =
+  pub count_on : (longest' total' : ℕ) → longest' ≡ max longest len → total' ≡ total + len → Counting ws rest longest' total'
+  count_on longest' total' a b =
       let s = sum_more in
       record {
-        some = ap (λ (x : Bool). x || some_over longest (map drawn (drop (i + 1) t.words))) a
-            ∙ joins over (ltb longest n) (some_over longest (map drawn (drop (i + 1) t.words)))
-            ∙ ap (λ (x : Bool). over || x) (sym some_more) ∙ v.some;
+        over = λ n.
+            v.over n
+            ∙ ap (λ (x : Bool). ltb n longest || x) (some_more n)
+            ∙ sym (joins (ltb n longest) (ltb n len) (some_over n (map drawn rest)))
+            ∙ ap (λ (x : Bool). x || some_over n (map drawn rest)) (sym (ltb_max n longest len) ∙ ap (ltb n) (sym a));
         sum = omega (arith, v.sum);
+        good = good.1;
       }
     where
       joins : (x y z : Bool) → ((x || y) || z) ≡ (x || (y || z))
       joins true y z = refl
       joins false y z = refl
 
-pub count_all : (t : Told) → LawfulTold t → (longest i : ℕ) (over : Bool) (total : ℕ) → t.width * t.height ≤ i → Counting t.words longest i over total → (over ≡ some_over longest (map drawn t.words)) × (total ≡ symbols_of (map drawn t.words))
-count_all t l longest i over total h v =
-    let n : length t.words ≤ i = omega (arith, l.whole) in
-    let z : symbols_of (map drawn (drop i t.words)) ≡ 0 = at_drop_all (λ xs. symbols_of (map drawn xs)) t.words i n in
-    let y : some_over longest (map drawn (drop i t.words)) ≡ false = at_drop_all (λ xs. some_over longest (map drawn xs)) t.words i n in
-    (sym (ap (λ (x : Bool). over || x) y ∙ none over) ∙ v.some, omega (arith, v.sum))
+pub count_all : (ws left : List (List Symbol)) (longest total : ℕ) → left ≡ [] → Counting ws left longest total → ((n : ℕ) → some_over n (map drawn ws) ≡ ltb n longest) × (total ≡ symbols_of (map drawn ws))
+count_all ws left longest total e v = (
+  λ n. v.over n ∙ ap (λ (xs : List (List Symbol)). ltb n longest || some_over n (map drawn xs)) e ∙ none (ltb n longest),
+  (let z : symbols_of (map drawn left) ≡ 0 = ap (λ (xs : List (List Symbol)). symbols_of (map drawn xs)) e in omega (arith, v.sum)),
+)
   where
     none : (x : Bool) → (x || false) ≡ x
     none true = refl
@@ -119,9 +129,6 @@ count_all t l longest i over total h v =
 -- a plain sheet whose drawings before a pixel are replaced
 abbrev pub redrawn : Plain → List Drawing → ℕ → Plain
 redrawn s new i = left_by s (Ok (take i new ++ drop i s.drawings))
-
-pub redraw_begins : (s : Plain) (new : List Drawing) → s ≡ redrawn s new 0
-redraw_begins s new = refl
 
 pub redraw_all : (s now : Plain) (new : List Drawing) (i : ℕ) → length new ≤ i → length s.drawings ≤ i → now ≡ redrawn s new i → now ≡ left_by s (Ok new)
 redraw_all s now new i h k e =
@@ -143,17 +150,6 @@ empty_more s now n i q whole h e t a =
     cond-true _ _ _ y ∙ ap (λ (x : Drawing). Ok (set (redrawn s new i).drawings i x)) (sym d) in
     a ∙ ap (λ (x : Plain). step x (clear i)) e ∙ redraw_on s new i (empty i) (omega arith) (omega arith) o
 
--- a word is written from the front of memory that it was copied to
-copied_word : (w memory now : List Symbol) (n : ℕ) → n ≡ length w → n ≤ 64 → length memory ≡ 64 → now ≡ filled w memory → take (n - 0) now ≡ w
-copied_word w memory now n e h l v =
-    let z : n - 0 ≡ length w = omega arith in
-    ap (λ (x : ℕ). take x now) z
-    ∙ ap (take (length w)) (v ∙ cond-false _ _ _ (le-ltb (length memory) (length w) (omega arith)))
-    ∙ take_at w (drop (length w) memory) (length w) refl
-
-pub write_copied : (s u : Plain) (p : ℕ) (w memory now : List Symbol) (n : ℕ) → n ≡ length w → n ≤ 64 → length memory ≡ 64 → now ≡ filled w memory → u ≡ step s (write p (take (n - 0) now)) → u ≡ step s (write p w)
-write_copied s u p w memory now n e h l v a = a ∙ ap (λ (x : List Symbol). step s (write p x)) (copied_word w memory now n e h l v)
-
 -- a record's words written over an empty sheet
 
 -- empty drawings behind the first have no more symbols than any others
@@ -174,6 +170,11 @@ sum_blank ds i n e =
         let u = sum_by-cons symbols_in [] (replicate m []) in
         let v = sum_by-cons symbols_in d es in
         omega (arith, blank_least m es (omega arith))
+
+-- the pixels before one have the words of a record, and those of the others are left
+pub record Passing (s : Plain) (t : Told) (now : Plain) (left : List (List Symbol)) (i : ℕ) : Type 0 where
+  pub words : left ≡ drop i t.words
+  pub drawn_so_far : now ≡ redrawn s (sheet_told t).drawings i
 
 module _ (s : Plain) (t : Told) (l : LawfulTold t) (f : Fits s t) (b : s ≡ emptied s) where
   abbrev new : List Drawing
@@ -213,6 +214,23 @@ module _ (s : Plain) (t : Told) (l : LawfulTold t) (f : Fits s t) (b : s ≡ emp
   write_more now u i w h e q a =
       a ∙ ap (λ (x : List Symbol). step now (write i x)) q ∙ ap (λ (x : Plain). step x (write i (word_at t i))) e
       ∙ redraw_on s new i (offered (write i (word_at t i))) (omega (arith, new_length)) (omega (arith, old_length)) (accepts i h)
+
+  -- a turn of the loop over the words of a record
+  pub pass_more : (now u : Plain) (left rest : List (List Symbol)) (w : List Symbol) (i p j : ℕ) → i < s.width * s.height → p ≡ i → j ≡ i + 1 → left ≡ w ∷ rest → u ≡ step now (write p w) → Passing s t now left i → Passing s t u rest j
+  pass_more now u left rest w i p j h here on is a v =
+      let cut : word_at t i ∷ drop (i + 1) t.words ≡ w ∷ rest = sym (drop_more t.words i [] (omega (arith, l.whole, same_pixels))) ∙ sym v.words ∙ is in
+      let same : w ≡ word_at t i = cc in
+      let behind : rest ≡ drop (i + 1) t.words = cc in
+      record {
+        words = behind ∙ ap (λ (x : ℕ). drop x t.words) (sym on);
+        drawn_so_far = write_more now u i w h v.drawn_so_far same (a ∙ ap (λ (x : ℕ). step now (write x w)) here) ∙ ap (λ (x : ℕ). redrawn s new x) (sym on);
+      }
+
+  pub pass_all : (now : Plain) (left : List (List Symbol)) (i : ℕ) → s.width * s.height ≤ i → Passing s t now left i → now ≡ left_by s (Ok new)
+  pass_all now left i h v = redraw_all s now new i (omega (arith, new_length)) (omega (arith, old_length)) v.drawn_so_far
+
+  pub pass_none : (now : Plain) (left : List (List Symbol)) (i : ℕ) → left ≡ [] → Passing s t now left i → s.width * s.height ≤ i
+  pass_none now left i e v = omega (arith, ap length (sym v.words ∙ e), length-drop i t.words, l.whole, same_pixels)
 
 -- what is accepted fits
 pub accepted_fits : (s : Plain) (t : Told) → answered (outcome s (replace (Some (sheet_told t)))) ≡ Ok tt → Fits s t

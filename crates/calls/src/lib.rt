@@ -6,5 +6,5 @@ mod scripts;
 mod whole;
 
 pub use pixels::{build, clear, put};
-pub use scripts::{Call, make_call, replay_calls};
+pub use scripts::Call;
 pub use whole::load;

@@ -2,21 +2,12 @@
 ghost use Rattle.std.specs.Prelude.{◌≡◌};
 ghost use Rattle.plain.specs.Plain.{answer, step, answered, outcome, left_by, draw as drawing, drawn_word, put as putting, write as writing, build as building, clear as clearing};
 ghost use Rattle.rules.specs.Tables.{build_word};
-ghost use Rattle.stores.specs.Sources.{empty_word};
+ghost use Rattle.stores.specs.Sources.{empty_word, plain_kept};
 ghost use Rattle.words.specs.Held.{in_symbols};
-ghost use Rattle.calls.specs.Kept.{plain_kept};
 
-use stores::{Source, Store, has_pixel};
-use symbols::{Crossing, Refusal, Symbol};
+use stores::{Source, Store, empty_word};
+use symbols::{Crossing, Refusal};
 use words::Word;
-
-// The word without a crossing.
-const EMPTY: [Symbol; 4] = [
-    Symbol::Corner,
-    Symbol::Corner,
-    Symbol::Corner,
-    Symbol::Corner,
-];
 
 // Gives a pixel a word, or tells why there is none. Refused where there is no such pixel, then where there is no word, then
 // where the word is over the longest or all words are over the total; then nothing changes.
@@ -24,7 +15,7 @@ fn draw<S: Store>(store: &mut S, pixel: u32, word: Result<Word, Refusal>) -> Res
     ensures answer { result ≡ answered (outcome (plain_kept S.told S.longest S.total store.old) (drawing pixel (drawn_word (in_symbols word)))) }
     ensures after { plain_kept S.told S.longest S.total store.new ≡ left_by (plain_kept S.told S.longest S.total store.old) (outcome (plain_kept S.told S.longest S.total store.old) (drawing pixel (drawn_word (in_symbols word)))) }
 {
-    if !has_pixel(store.width(), store.height(), pixel) {
+    if !store.size().has(pixel) {
         return Err(Refusal::NoPixel);
     }
     let word = word?;
@@ -60,7 +51,7 @@ fn write_empty<S: Store>(store: &mut S, pixel: u32) -> Result<(), Refusal>
     ensures answer { result ≡ answer (plain_kept S.told S.longest S.total store.old) (writing pixel empty_word) }
     ensures after { plain_kept S.told S.longest S.total store.new ≡ step (plain_kept S.told S.longest S.total store.old) (writing pixel empty_word) }
 {
-    store.write(pixel, &EMPTY)
+    store.write(pixel, empty_word())
 }
 
 // Gives a pixel the word `++++`. It always fits.

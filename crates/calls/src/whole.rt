@@ -1,66 +1,51 @@
 // A record for the whole sheet: its words replace all others.
-ghost use Rattle.std.specs.Prelude.{◌≡◌, ◌+◌, ◌*◌, ◌^◌, ◌<◌, false, ◌||◌, map, Some, Ok, nat_lt};
+ghost use Rattle.std.specs.Prelude.{◌≡◌, ℕ, ◌*◌, map, Some, Ok, nat_lt};
 ghost use Rattle.rules.specs.Words.{drawn};
-ghost use Rattle.plain.specs.Plain.{some_over, symbols_of, same_size, answered, outcome, replace, left_by, answer, step, write as writing, load as loading};
+ghost use Rattle.plain.specs.Plain.{some_over, symbols_of, same_size, answered, outcome, replace, left_by, answer, step, load as loading};
 ghost use Rattle.calls.specs.Fits.{Fits};
-ghost use Rattle.stores.specs.Sources.{word_at, sheet_told};
-ghost use Rattle.records.specs.Source.{source_told, next_pixel};
-ghost use Rattle.calls.specs.Kept.{plain_kept, emptied};
+ghost use Rattle.stores.specs.Sources.{plain_kept, sheet_told};
+ghost use Rattle.records.specs.Source.{source_told};
+ghost use Rattle.calls.specs.Kept.{emptied};
 
 use crate::pixels::clear;
-use records::{RecordSource, Words};
+use records::RecordSource;
 use stores::{Source, Store};
-use symbols::{Refusal, Symbol};
+use symbols::Refusal;
 
-// What is counted of words: whether one is over a longest, and how many symbols all have.
+// What is counted of words: how many symbols the longest has, and how many all have.
 #[derive(Clone, Copy)]
 struct Measured {
-    over: bool,
+    longest: usize,
     total: usize,
 }
 
 // How many pixels a sheet has.
 fn pixel_count<S: Source>(source: &S) -> u32
-    ensures { result ≡ (S.Source.told source.now).width * (S.Source.told source.now).height }
+    ensures { result ≡ (S.told source.now).width * (S.told source.now).height }
 {
     u32::from(source.width()) * u32::from(source.height())
 }
 
-// One word more is counted.
-fn counted(measured: Measured, len: usize, longest: usize) -> Measured
-    requires { measured.total + len < 2 ^ 64 }
-    ensures over { result.over ≡ (measured.over || nat_lt longest len) }
-    ensures total { result.total ≡ measured.total + len }
-{
-    Measured {
-        over: measured.over || len > longest,
-        total: measured.total + len,
-    }
-}
-
 // Counts the words of a record.
-fn measure(source: &RecordSource<'_>, longest: usize) -> Measured
-    ensures over { result.over ≡ some_over longest (map drawn (source_told source.now).words) }
+fn measure(source: &RecordSource<'_>) -> Measured
+    ensures longest { (n : ℕ) → some_over n (map drawn (source_told source.now).words) ≡ nat_lt n result.longest }
     ensures total { result.total ≡ symbols_of (map drawn (source_told source.now).words) }
 {
-    let mut words = source.words();
-    let mut held = [Symbol::Corner; 64];
-    let mut measured = Measured {
-        over: false,
-        total: 0,
-    };
-    for i in 0..pixel_count(source) {
-        let len = words.next_word(&mut held);
-        measured = counted(measured, len, longest);
+    let mut longest: usize = 0;
+    let mut total: usize = 0;
+    for word in source.words() {
+        let len = word.symbols().len();
+        longest = longest.max(len);
+        total += len;
     }
-    measured
+    Measured { longest, total }
 }
 
 // Whether a store and a record have one size.
 fn has_size<S: Store>(store: &S, source: &RecordSource<'_>) -> bool
     ensures { result ≡ same_size (plain_kept S.told S.longest S.total store.now) (sheet_told (source_told source.now)) }
 {
-    source.width() == store.width() && source.height() == store.height()
+    source.size() == store.size()
 }
 
 // Whether the words of a record may replace those of a store. Only the new words count.
@@ -70,8 +55,8 @@ fn judge<S: Store>(store: &S, source: &RecordSource<'_>) -> Result<(), Refusal>
     if !has_size(store, source) {
         return Err(Refusal::Opening);
     }
-    let measured = measure(source, store.longest_word());
-    if measured.over {
+    let measured = measure(source);
+    if measured.longest > store.longest_word() {
         return Err(Refusal::OverLongest);
     }
     if measured.total > store.room() {
@@ -89,26 +74,14 @@ fn empty_all<S: Store>(store: &mut S)
     }
 }
 
-// Writes the next word of a record at a pixel.
-fn write_next<S: Store>(store: &mut S, pixel: u32, words: &mut Words<'_>)
-    ensures after { plain_kept S.told S.longest S.total store.new ≡ step (plain_kept S.told S.longest S.total store.old) (writing pixel (word_at (source_told words.old.source) words.old.place.pixel)) }
-    ensures pixel { words.new.place.pixel ≡ next_pixel (source_told words.old.source) words.old.place.pixel }
-    ensures source { words.new.source ≡ words.old.source }
-{
-    let mut held = [Symbol::Corner; 64];
-    let len = words.next_word(&mut held);
-    let _ = store.write(pixel, &held[0..len]);
-}
-
 // Writes the words of a record over an empty sheet. Each of them fits.
 fn write_all<S: Store>(store: &mut S, source: &RecordSource<'_>)
     requires blank { plain_kept S.told S.longest S.total store.old ≡ emptied (plain_kept S.told S.longest S.total store.old) }
     requires fits { Fits (plain_kept S.told S.longest S.total store.old) (source_told source.now) }
     ensures { plain_kept S.told S.longest S.total store.new ≡ left_by (plain_kept S.told S.longest S.total store.old) (Ok (sheet_told (source_told source.now)).drawings) }
 {
-    let mut words = source.words();
-    for pixel in 0..pixel_count(store) {
-        write_next(store, pixel, &mut words);
+    for (pixel, word) in (0..pixel_count(store)).zip(source.words()) {
+        let _ = store.write(pixel, word.symbols());
     }
 }
 

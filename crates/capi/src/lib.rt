@@ -14,12 +14,7 @@ use symbols::{Refusal, Road};
 fn road_of(code: u32) -> Road
     ensures { result ≡ road_in code }
 {
-    match code % 4 {
-        0 => Road::West,
-        1 => Road::North,
-        2 => Road::East,
-        _ => Road::South,
-    }
+    Road::ALL[(code % 4) as usize]
 }
 
 // The dart of a code.
@@ -38,14 +33,14 @@ fn code_of(dart: Dart) -> i32
     requires { (dart.pixel < 4096) × (dart.place < 64) }
     ensures { result ≡ pos (dart_code dart) }
 {
-    dart.pixel as i32 * 256 + dart.road.to_code() as i32 * 64 + dart.place as i32
+    dart.pixel as i32 * 256 + i32::from(u8::from(dart.road)) * 64 + i32::from(dart.place)
 }
 
 // The number of a refusal, with its sign turned.
 fn refused(refusal: Refusal) -> i32
     ensures { result ≡ neg_ℤ (pos (number refusal)) }
 {
-    -(refusal.number() as i32)
+    -i32::from(refusal.number())
 }
 
 // An answer as C has it.
@@ -58,6 +53,9 @@ fn told(answer: Result<Dart, Refusal>) -> i32
         Err(refusal) => refused(refusal),
     }
 }
+
+// The three calls differ in the step alone. With the step as a closure handed to `and_then` the proof did not close: that
+// the answer's pixel and place are small is not known behind it.
 
 // The dart that leaves the entered pixel through the same crossing.
 pub fn plate_opposite(bytes: &[u8], dart: u32) -> i32

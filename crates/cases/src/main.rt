@@ -7,72 +7,52 @@
 use drawings::Drawing;
 use std::alloc::{AllocError, Global};
 use std::io::{BufRead, BufReader};
-use symbols::{Crossing, Refusal};
+use symbols::Crossing;
 use tables::build;
 use words::Word;
 
-fn push_text(out: &mut String, word: &Word) -> Result<(), AllocError> {
-    for s in word.symbols() {
-        out.push(s.to_char())?;
-    }
-    Ok(())
-}
-
-fn push_refusal(heap: Global, out: &mut String, refusal: Refusal) -> Result<(), AllocError> {
-    let n = refusal.number();
-    out.push_str(format!(in heap; "refused {n}")?.as_str())
-}
-
-fn push_crossings(heap: Global, out: &mut String, d: &Drawing) -> Result<(), AllocError> {
-    for i in 0..d.len() {
+fn push_crossings(out: &mut String, d: &Drawing) -> Result<(), AllocError> {
+    for (i, c) in d.crossings().iter().enumerate() {
         let Some((road, _)) = d.place_of(i) else {
             continue;
         };
-        let Some(c) = d.crossings().get(i) else {
-            continue;
-        };
-        let road = road.to_char();
+        let space = if i > 0 { " " } else { "" };
         let group = c.group;
         let vertex = if c.vertex { 'v' } else { '-' };
-        if i > 0 {
-            out.push(' ')?;
-        }
-        out.push_str(format!(in heap; "{road}:{group}:{vertex}")?.as_str())?;
+        write!(out, "{space}{road}:{group}:{vertex}")?;
     }
     Ok(())
 }
 
-fn push_steps(heap: Global, out: &mut String, d: &Drawing) -> Result<(), AllocError> {
+fn push_steps(out: &mut String, d: &Drawing) -> Result<(), AllocError> {
     for i in 0..d.len() {
         let Some(left) = d.leaves_at(i) else {
             continue;
         };
-        if i > 0 {
-            out.push(' ')?;
-        }
-        out.push_str(format!(in heap; "{left}")?.as_str())?;
+        let space = if i > 0 { " " } else { "" };
+        write!(out, "{space}{left}")?;
     }
     Ok(())
 }
 
-fn push_built(heap: Global, out: &mut String, table: &[Crossing]) -> Result<(), AllocError> {
+fn push_built(out: &mut String, table: &[Crossing]) -> Result<(), AllocError> {
     match build(table) {
-        Ok(word) => push_text(out, &word),
-        Err(refusal) => push_refusal(heap, out, refusal),
+        Ok(word) => write!(out, "{word}"),
+        Err(refusal) => write!(out, "{refusal}"),
     }
 }
 
-fn tell_word(heap: Global, out: &mut String, text: &str) -> Result<(), AllocError> {
+fn tell_word(out: &mut String, text: &str) -> Result<(), AllocError> {
     match Word::read(text) {
         Ok(word) => {
             let d = word.drawing();
-            push_crossings(heap, out, &d)?;
+            push_crossings(out, &d)?;
             out.push('\t')?;
-            push_steps(heap, out, &d)?;
+            push_steps(out, &d)?;
             out.push('\t')?;
-            push_built(heap, out, d.crossings())
+            push_built(out, d.crossings())
         }
-        Err(refusal) => push_refusal(heap, out, refusal),
+        Err(refusal) => write!(out, "{refusal}"),
     }
 }
 
@@ -94,13 +74,13 @@ fn tell_table(heap: Global, out: &mut String, records: &str) -> Result<(), Alloc
             table.push(c)?;
         }
     }
-    push_built(heap, out, &table)
+    push_built(out, &table)
 }
 
 fn tell_case(heap: Global, line: &str) -> Result<String, AllocError> {
     let mut out = String::new(heap);
     match line.split_once('\t') {
-        Some(("word", text)) => tell_word(heap, &mut out, text)?,
+        Some(("word", text)) => tell_word(&mut out, text)?,
         Some(("table", records)) => tell_table(heap, &mut out, records)?,
         _ => out.push_str("no such case")?,
     }

@@ -15,8 +15,7 @@ use Rattle.model.specs.Darts.{darts}
 use Rattle.model.specs.Streets.{circles, on_ring, first_that, ring_refused}
 use Rattle.model.specs.Statements.{NoRoadFails}
 use Rattle.model.proofs.Listing.{circles_lawful}
-use Rattle.checks.specs.declared.tallies.Tally.TheVariants.{Darts, Reached}
-use Rattle.checks.specs.Tallies.{tally}
+use Rattle.checks.specs.Tallies.{reached, as_many}
 
 reached_by : (p : Dart → Bool) (f : Dart → List Dart) (ds : List Dart) → sum_by (λ d. cond (p d) (length (f d)) 0) ds ≡ length (flat_map f (filter p ds))
 reached_by p f [] = refl
@@ -35,14 +34,14 @@ ones : (ds : List Dart) → sum_by (λ d. 1) ds ≡ length ds
 ones [] = refl
 ones (d ∷ ds) = (let r = ones ds in omega (arith, sum_by-cons (λ (x : Dart). 1) d ds))
 
-pub darts_counted : (s : Sheet) → tally Darts s ≡ length (darts s)
+pub darts_counted : (s : Sheet) → as_many s ≡ length (darts s)
 darts_counted s = ones (darts s)
 
 first_absent : {A : Type 0} (p : A → Bool) (xs : List A) → ((x : A) → In x xs → p x ≡ false) → first_that p xs ≡ None
 first_absent p [] h = refl
 first_absent p (x ∷ xs) h = rw (h x (inl refl)) (first_absent p xs (λ y m. h y (inr m)))
 
-pub all_reached : (s : Sheet) → Sheetly s → NoRoadFails s → tally Reached s ≡ tally Darts s → ring_refused (first_that (on_ring s) (darts s)) ≡ Ok tt
+pub all_reached : (s : Sheet) → Sheetly s → NoRoadFails s → reached s ≡ as_many s → ring_refused (first_that (on_ring s) (darts s)) ≡ Ok tt
 all_reached s k free e =
     let law = circles_lawful s k free in
     let n : length (cover (circles s)) ≡ length (darts s) = sym (reached_by _ _ (darts s)) ∙ e ∙ darts_counted s in

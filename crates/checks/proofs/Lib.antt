@@ -1,7 +1,3 @@
-pub mod Failing
-pub mod Strolls
-pub mod Tours
-pub mod Sums
-pub mod Finding
 pub mod Deciding
 pub mod Numbering
+pub mod Adding

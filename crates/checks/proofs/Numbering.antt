@@ -16,10 +16,9 @@ use Rattle.model.specs.Sheets.{Sheet, Sheetly}
 use Rattle.model.specs.Darts.{same_dart, dart_le, from_on, darts}
 use Rattle.model.specs.Streets.{leaves_vertex, circles, counts}
 use Rattle.walks.proofs.Homing.{darts_few, pixels_few}
-use Rattle.checks.specs.declared.tallies.Tally.TheVariants.{Sidewalks, Loops}
 use Rattle.checks.specs.Counting.{begins_vertex}
-use Rattle.checks.specs.Tallies.{tally}
-use Rattle.checks.proofs.Sums.{from_more}
+use Rattle.checks.specs.Tallies.{begins, roots}
+use Rattle.darts.proofs.Filling.{from_more}
 
 module _ (P : ℕ → Bool) (n : ℕ) where
   abbrev pub kept_from : ℕ → ℕ
@@ -36,13 +35,13 @@ module _ (P : ℕ → Bool) (n : ℕ) where
       ap (λ (x : List ℕ). length (filter P x)) (from_more i n h)
       ∙ ap length (cond-false (P i) (i ∷ filter P (from_on (i + 1) (n - (i + 1)))) (filter P (from_on (i + 1) (n - (i + 1)))) (sym e))
 
-pub streets_are : (s : Sheet) → tally Sidewalks s / 2 ≡ (counts s).street_count
+pub streets_are : (s : Sheet) → sum_by (begins s) (darts s) / 2 ≡ (counts s).street_count
 streets_are s = ap (λ (x : ℕ). x / 2) (sym (length-filter (leaves_vertex s) (darts s)))
 
-pub loops_are : (s : Sheet) → tally Loops s ≡ (counts s).loop_count
+pub loops_are : (s : Sheet) → sum_by (roots s) (darts s) ≡ (counts s).loop_count
 loops_are s = sym (length-filter (λ d. same_dart (root (circles s) dart_le d) d) (darts s))
 
-pub counts_few : (s : Sheet) → Sheetly s → (tally Sidewalks s ≤ 245760) × (tally Loops s ≤ 245760)
+pub counts_few : (s : Sheet) → Sheetly s → (sum_by (begins s) (darts s) ≤ 245760) × (sum_by (roots s) (darts s) ≤ 245760)
 counts_few s k = (
   omega (arith, count_by-le-length (leaves_vertex s) (darts s), darts_few s k, pixels_few s k),
   omega (arith, count_by-le-length (λ d. same_dart (root (circles s) dart_le d) d) (darts s), darts_few s k, pixels_few s k),

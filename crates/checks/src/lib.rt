@@ -1,62 +1,81 @@
 // The check and the counts of any source.
 #![tactic(auto)]
 
-ghost use Rattle.std.specs.Prelude.{◌≡◌, Decides};
-ghost use Rattle.model.specs.Statements.{NoRoadFails};
-ghost use Rattle.model.specs.Streets.{check, count};
+ghost use Rattle.std.specs.Prelude.{◌≡◌, true, Ok, Err, Decides, MatchResult};
+ghost use Rattle.model.specs.Darts.{is_dart, darts};
+ghost use Rattle.model.specs.Streets.{on_ring, first_that, ring_refused, check, count};
 ghost use Rattle.stores.specs.Sources.{sheet_told};
-ghost use Rattle.checks.specs.declared.tallies.Tally.TheVariants.{Darts, Reached};
 ghost use Rattle.checks.specs.Counting.{in_numbers};
-ghost use Rattle.checks.specs.Tallies.{tally};
+ghost use Rattle.checks.specs.Tallies.{reaches, reached, as_many};
 
+use darts::Passable;
+use model::Dart;
 use numbers::{loops, streets, vertices};
 use rings::check_rings;
-use roads::check_roads;
 use stores::Source;
 use symbols::Refusal;
-use tallies::Tally;
 use totals::total;
 
 mod counts;
-mod going;
 mod numbers;
 mod rings;
-mod roads;
-mod tallies;
 mod totals;
 
 pub use counts::Counts;
-pub use roads::pixels_of;
-pub use totals::places;
 
-// Whether the sidewalks reach as many darts as there are.
-fn all_reached<S: Source>(source: &S) -> bool
-    requires { NoRoadFails (sheet_told (S.Source.told source.now)) }
-    ensures { Decides result (tally Reached (sheet_told (S.Source.told source.now)) ≡ tally Darts (sheet_told (S.Source.told source.now))) }
+// How many darts the sidewalk has that a dart begins; none where it begins none.
+fn reached_from<S: Source>(free: &Passable<S>, dart: Dart) -> u32
+    requires { is_dart (sheet_told (S.told free.now.source.now)) dart ≡ true }
+    ensures { result ≡ reaches (sheet_told (S.told free.now.source.now)) dart }
 {
-    total(source, Tally::Reached) == total(source, Tally::Darts)
+    free.sidewalk_len(dart).unwrap_or(0)
 }
 
-// Whether every road has its crossings on both sides and every dart lies on a sidewalk: refused at the first failing road,
-// then at the first dart on a ring. Where it passes, each dart is walked over once.
-pub fn check<S: Source>(source: &S) -> Result<(), Refusal>
-    ensures { result ≡ check (sheet_told (S.Source.told source.now)) }
+// Whether the sidewalks reach as many darts as there are.
+fn all_reached<S: Source>(free: &Passable<S>) -> bool
+    ensures { Decides result (reached (sheet_told (S.told free.now.source.now)) ≡ as_many (sheet_told (S.told free.now.source.now))) }
 {
-    check_roads(source)?;
-    if all_reached(source) {
+    total(free, |dart| reached_from(free, dart)) == total(free, |_| 1)
+}
+
+// Refused at the first dart on a ring. Where there is none, each dart is walked over once.
+fn check_darts<S: Source>(free: &Passable<S>) -> Result<(), Refusal>
+    ensures { result ≡ ring_refused (first_that (on_ring (sheet_told (S.told free.now.source.now))) (darts (sheet_told (S.told free.now.source.now)))) }
+{
+    if all_reached(free) {
         return Ok(());
     }
-    check_rings(source)
+    check_rings(free)
+}
+
+// A source that passes the check: every road has its crossings on both sides and every dart lies on a sidewalk. Refused at
+// the first failing road, then at the first dart on a ring.
+pub fn checked<S: Source>(source: &S) -> Result<Passable<S>, Refusal>
+    ensures { MatchResult result
+        (λ p. (p.source.now ≡ source.now) × (check (sheet_told (S.told source.now)) ≡ Ok tt))
+        (λ f. check (sheet_told (S.told source.now)) ≡ Err f) }
+{
+    let free = Passable::of(source)?;
+    check_darts(&free)?;
+    Ok(free)
+}
+
+// Whether a source passes the check; refused as above.
+pub fn check<S: Source>(source: &S) -> Result<(), Refusal>
+    ensures { result ≡ check (sheet_told (S.told source.now)) }
+{
+    checked(source)?;
+    Ok(())
 }
 
 // How many vertices, streets and loops there are; refused as the check.
 pub fn count<S: Source>(source: &S) -> Result<Counts, Refusal>
-    ensures { in_numbers result ≡ count (sheet_told (S.Source.told source.now)) }
+    ensures { in_numbers result ≡ count (sheet_told (S.told source.now)) }
 {
-    check(source)?;
+    let free = checked(source)?;
     Ok(Counts {
         vertices: vertices(source),
-        streets: streets(source),
-        loops: loops(source),
+        streets: streets(&free),
+        loops: loops(&free),
     })
 }

@@ -2,14 +2,12 @@
 ghost use Rattle.std.specs.Prelude.{◌≡◌, ◌<◌, ◌≤◌};
 ghost use Rattle.drawings.specs.Drawings.{crossings};
 ghost use Rattle.model.specs.Sheets.{pixels, drawing_at};
-ghost use Rattle.model.specs.Statements.{NoRoadFails};
 ghost use Rattle.model.specs.Streets.{vertices, counts};
 ghost use Rattle.stores.specs.Sources.{sheet_told};
 ghost use Rattle.checks.specs.Counting.{begins_vertex};
 
-use crate::roads::pixels_of;
-use crate::tallies::Tally;
 use crate::totals::total;
+use darts::{Passable, pixels_of};
 use drawings::Drawing;
 use maps::drawing_at;
 use stores::Source;
@@ -19,7 +17,7 @@ use symbols::Crossing;
 fn begins_vertex(crossing: Crossing, i: usize) -> bool
     ensures { result ≡ begins_vertex crossing i }
 {
-    crossing.group as usize == i && crossing.vertex
+    usize::from(crossing.group) == i && crossing.vertex
 }
 
 // How many groups with a vertex a drawing has.
@@ -27,10 +25,9 @@ fn vertices_in(drawing: &Drawing) -> u32
     ensures is { result ≡ vertices (crossings drawing.now) }
     ensures few { result ≤ 60 }
 {
-    let records = drawing.crossings();
     let mut n: u32 = 0;
-    for i in 0..records.len() {
-        if begins_vertex(records[i], i) {
+    for (i, crossing) in drawing.crossings().iter().enumerate() {
+        if begins_vertex(*crossing, i) {
             n += 1;
         }
     }
@@ -39,19 +36,16 @@ fn vertices_in(drawing: &Drawing) -> u32
 
 // How many groups with a vertex a pixel has.
 fn vertices_at<S: Source>(source: &S, pixel: u32) -> u32
-    requires { pixel < pixels (sheet_told (S.Source.told source.now)) }
-    ensures is { result ≡ vertices (drawing_at (sheet_told (S.Source.told source.now)) pixel) }
+    requires { pixel < pixels (sheet_told (S.told source.now)) }
+    ensures is { result ≡ vertices (drawing_at (sheet_told (S.told source.now)) pixel) }
     ensures few { result ≤ 60 }
 {
-    match drawing_at(source, pixel) {
-        Some(drawing) => vertices_in(&drawing),
-        None => unreachable!(),
-    }
+    vertices_in(&drawing_at(source, pixel).unwrap())
 }
 
 // How many vertices there are.
 pub(crate) fn vertices<S: Source>(source: &S) -> u32
-    ensures { result ≡ (counts (sheet_told (S.Source.told source.now))).vertex_count }
+    ensures { result ≡ (counts (sheet_told (S.told source.now))).vertex_count }
 {
     let mut n: u32 = 0;
     for pixel in 0..pixels_of(source) {
@@ -61,17 +55,15 @@ pub(crate) fn vertices<S: Source>(source: &S) -> u32
 }
 
 // How many streets there are: half the sidewalks.
-pub(crate) fn streets<S: Source>(source: &S) -> u32
-    requires { NoRoadFails (sheet_told (S.Source.told source.now)) }
-    ensures { result ≡ (counts (sheet_told (S.Source.told source.now))).street_count }
+pub(crate) fn streets<S: Source>(free: &Passable<S>) -> u32
+    ensures { result ≡ (counts (sheet_told (S.told free.now.source.now))).street_count }
 {
-    (total(source, Tally::Sidewalks) / 2) as u32
+    (total(free, |dart| u32::from(free.begins(dart).unwrap_or(false))) / 2) as u32
 }
 
 // How many loops there are: each has one smallest dart.
-pub(crate) fn loops<S: Source>(source: &S) -> u32
-    requires { NoRoadFails (sheet_told (S.Source.told source.now)) }
-    ensures { result ≡ (counts (sheet_told (S.Source.told source.now))).loop_count }
+pub(crate) fn loops<S: Source>(free: &Passable<S>) -> u32
+    ensures { result ≡ (counts (sheet_told (S.told free.now.source.now))).loop_count }
 {
-    total(source, Tally::Loops) as u32
+    total(free, |dart| u32::from(free.is_root(dart).unwrap_or(false))) as u32
 }

@@ -1,9 +1,11 @@
 -- Counting the crossings of a road, a record at a time.
 --   count_yes, count_no: a record more, on the road or on another
 --   count_full: all of them
-use Rattle.std.proofs.Common.{◌≡◌, ℕ, ◌+◌, ◌<◌, ◌≤◌, cond, eqb, ◌≢◌, List, [], ◌∷◌, ◌++◌, length, take, sym, ap, ◌∙◌, inl, inr, arith}
+--   count_by_on: the same by the test of each
+use Rattle.std.proofs.Common.{◌≡◌, ℕ, suc, ◌+◌, ◌<◌, ◌≤◌, cond, eqb, ◌≢◌, List, [], ◌∷◌, ◌++◌, length, take, filter, count_by, ◌==◌, refl, sym, ap, ◌∙◌, inl, inr, arith}
 use Rattle.std.proofs.lemmas.List.{take_more, take_all}
-use Rattle.std.proofs.lemmas.Bool.{eq-eqb, ne_eqb, cases_Bool}
+use Rattle.std.proofs.lemmas.List.Sums.{length-filter}
+use Rattle.std.proofs.lemmas.Bool.{eq-eqb, ne_eqb, cases_Bool, cases_eq}
 use Rattle.symbols.specs.declared.symbols.Crossing.{Crossing}
 use Rattle.rules.specs.Tables.{at, blank}
 use Rattle.rules.specs.Crossings.{count_on}
@@ -28,3 +30,14 @@ count_no q t i h e = ap (count_on q) (take_more t i blank h) ∙ count_push q 0 
 
 pub count_full : (q : ℕ) (t : List Crossing) (i : ℕ) → length t ≤ i → count_on q (take i t) ≡ count_on q t
 count_full q t i h = ap (count_on q) (take_all i t h)
+
+on_filter : (q : ℕ) (t : List Crossing) → length (filter (λ (c : Crossing). c.road == q) t) ≡ count_on q t
+on_filter q [] = refl
+on_filter q (x ∷ t) =
+    elim (cases_eq q x.road) [
+      | inl e ↦ rw (eq-eqb x.road q (sym e), eq-eqb q x.road e) (ap suc (on_filter q t))
+      | inr e ↦ rw (ne_eqb x.road q (λ p. e (sym p)), ne_eqb q x.road e) (on_filter q t)
+    ]
+
+pub count_by_on : (q : ℕ) (t : List Crossing) → count_by (λ (c : Crossing). c.road == q) t ≡ count_on q t
+count_by_on q t = sym (length-filter (λ (c : Crossing). c.road == q) t) ∙ on_filter q t

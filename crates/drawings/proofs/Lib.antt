@@ -1,3 +1,4 @@
-mod Meetings
 mod Sound
 mod Counting
+mod Lasts
+mod Meetings

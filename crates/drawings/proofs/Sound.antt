@@ -2,8 +2,7 @@
 --   told_drawn: a word that is shaped and draws something is lawful and draws that
 --   sound: then its crossings are few and have no fault
 --   road_low: crossings without a fault are on the roads 0 to 3
-use Rattle.std.proofs.Common.{◌≡◌, ℕ, ◌<◌, ◌≤◌, true, false, List, length, take, is_some, Some, None, Option, sym, refl, ap, subst, arith}
-use Rattle.std.proofs.lemmas.List.{length-take-le}
+use Rattle.std.proofs.Common.{◌≡◌, ℕ, ◌<◌, ◌≤◌, true, false, List, length, is_some, Some, None, Option, sym, refl, ap, subst}
 use Rattle.std.proofs.lemmas.Bool.{and_from, true≢false}
 use Rattle.symbols.specs.declared.refusals.Refusal.{Refusal}
 use Rattle.symbols.specs.declared.symbols.Crossing.{Crossing}
@@ -21,10 +20,10 @@ means_drawn w d s e =
     let t = told_drawn w d s e in
     subst Means t.1 (words_come_back w t.0).1
 
-pub sound : (w : List Symbol) (out : List Crossing) (n : ℕ) → true ≡ shaped w → drawing_of w ≡ Some (take n out) → n ≤ length out → (n ≤ 60) × (is_some (fault (take n out)) ≡ false)
-sound w out n s e h =
-    let m = means_drawn w (take n out) s e in
-    (omega (arith, m.few, length-take-le n out h), ap is_some ((rules_are_told (take n out)).1 m))
+pub sound : (w : List Symbol) (d : List Crossing) → true ≡ shaped w → drawing_of w ≡ Some d → (length d ≤ 60) × (is_some (fault d) ≡ false)
+sound w d s e =
+    let m = means_drawn w d s e in
+    (m.few, ap is_some ((rules_are_told d).1 m))
 
 no_fault : (o : Option Refusal) → is_some o ≡ false → o ≡ None
 no_fault None e = refl

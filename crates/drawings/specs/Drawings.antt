@@ -3,17 +3,18 @@
 --   draws: what a word draws, refused as the word is
 --   in_crossings: an answer that holds a drawing, by its crossings
 --   place_code: a place of a road, by the road's code
-use Rattle.std.specs.Prelude.{ℕ, List, take, Some, None, Ok, Err, Option, Result}
+use Rattle.std.specs.Prelude.{ℕ, List, Some, None, Ok, Err, Option, Result}
 use Rattle.symbols.specs.declared.refusals.Refusal.{Refusal}
 use Rattle.symbols.specs.declared.symbols.Crossing.{Crossing}
 use Rattle.symbols.specs.declared.roads.Road.{Road}
 use Rattle.symbols.specs.declared.symbols.Symbol.{Symbol}
 use Rattle.symbols.specs.Symbols.{road_code}
+use Rattle.rows.specs.Rows.{items}
 use Rattle.rules.specs.Words.{drawn}
 use Rattle.drawings.specs.declared.Drawing.{Drawing}
 
 abbrev pub crossings : Drawing → List Crossing
-crossings d = take d.len d.records
+crossings d = items d.crossings
 
 abbrev pub draws : Result (List Symbol) Refusal → Result (List Crossing) Refusal
 draws (Ok w) = Ok (drawn w)

@@ -1,14 +1,14 @@
 -- One symbol of a word that is being read, on the open marks.
 --   Meeting: what a crossing symbol does: its group, whether that has a vertex, and the open marks then
 --   meets: what a symbol does at a crossing; nothing where it may not stand there
---   marks_in: the open marks that the first places of a list hold, the last of them innermost
---   meeting: the same of what the code answers
-use Rattle.std.specs.Prelude.{ℕ, zero, suc, Bool, true, false, List, [], ◌∷◌, Some, None, Option, slice_index_or}
+--   open_marks: the open marks in a row, the innermost first
+use Rattle.std.specs.Prelude.{ℕ, Bool, true, false, List, [], ◌∷◌, reverse, Some, None, Option}
 use Rattle.symbols.specs.declared.symbols.Mark.{Mark}
 use Rattle.symbols.specs.declared.symbols.Mark.TheVariants.{Split, Junction}
 use Rattle.symbols.specs.declared.symbols.Symbol.{Symbol}
 use Rattle.symbols.specs.declared.symbols.Symbol.TheVariants.{Corner, DeadEnd, SplitOpen, SplitClose, JunctionOpen, Branch, JunctionClose}
-use Rattle.drawings.specs.declared.reading.Met.{Met}
+use Rattle.rows.specs.declared.row.Row.{Row}
+use Rattle.rows.specs.Rows.{items}
 
 pub record Meeting : Type 0 where
   pub group : ℕ
@@ -30,10 +30,5 @@ meets JunctionClose k [] = None
 meets JunctionClose k (Split g ∷ st) = None
 meets JunctionClose k (Junction g ∷ st) = Some (record { group = g; vertex = true; marks = st })
 
-abbrev pub marks_in : List Mark → ℕ → List Mark
-marks_in a zero = []
-marks_in a (suc n) = slice_index_or a n (Split 0) ∷ marks_in a n
-
-abbrev pub meeting : List Mark → Option Met → Option Meeting
-meeting a None = None
-meeting a (Some m) = Some (record { group = m.0; vertex = m.1; marks = marks_in a m.2 })
+abbrev pub open_marks : Row Mark 64 → List Mark
+open_marks r = reverse (items r)

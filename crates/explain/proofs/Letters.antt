@@ -1,25 +1,12 @@
--- The letter of a road is one byte, and lines follow one another.
---   letter_encodes: the letter of a road, as text
+-- Lines follow one another.
 --   line_more, tell_turn: one line more
---   no_line: an empty input
-use Rattle.std.proofs.Common.{◌≡◌, ℕ, suc, ◌+◌, ◌-◌, ◌<◌, List, [], ◌∷◌, ◌++◌, length, Some, Option, sym, refl, ap, ◌∙◌, add-one, arith}
-use lib.Utf8.{encode}
+use Rattle.std.proofs.Common.{◌≡◌, ℕ, suc, ◌+◌, ◌-◌, ◌<◌, List, ◌++◌, length, Some, Option, sym, ap, ◌∙◌, add-one, arith}
 use Rattle.std.proofs.lemmas.List.{append_assoc}
 use Rattle.std.proofs.lemmas.Bool.{lt-ltb}
-use Rattle.std.proofs.lemmas.Str.{encode_ascii}
 use Rattle.symbols.specs.declared.symbols.Crossing.{Crossing}
-use Rattle.symbols.specs.declared.roads.Road.{Road}
-use Rattle.symbols.specs.declared.roads.Road.TheVariants.{West, North, East, South}
-use Rattle.symbols.specs.Symbols.{road_letter}
 use Rattle.rules.specs.Crossings.{where_in}
 use Rattle.explain.specs.declared.Line.{Line}
-use Rattle.explain.specs.Explained.{written, line_at, lines, one_line}
-
-pub letter_encodes : (r : Road) → encode (road_letter r) ≡ road_letter r ∷ []
-letter_encodes West = encode_ascii 87 (omega arith)
-letter_encodes North = encode_ascii 78 (omega arith)
-letter_encodes East = encode_ascii 69 (omega arith)
-letter_encodes South = encode_ascii 83 (omega arith)
+use Rattle.explain.specs.Explained.{written, line_at, lines}
 
 line_more : (d : List Crossing) (n i : ℕ) (bs whole : List ℕ) → i < n → bs ++ lines d (n - i) i ≡ whole → (bs ++ written (line_at d i)) ++ lines d (n - (i + 1)) (i + 1) ≡ whole
 line_more d n i bs whole h e =
@@ -39,7 +26,3 @@ tell_turn d n i bs next shown whole l h m e w a v =
     let s : written l ≡ written (line_at d i) = ap written (line_is d i l (omega arith) e) in
     ap (λ (x : List ℕ). x ++ lines d (n - (i + 1)) (i + 1)) (a ∙ ap (λ (x : List ℕ). bs ++ x) (w ∙ s))
     ∙ line_more d n i bs whole h v
-
-pub no_line : (bs : List ℕ) → length bs ≡ 0 → bs ≡ one_line bs
-no_line [] e = refl
-no_line (b ∷ bs) e = absurd (omega arith)

@@ -33,12 +33,15 @@ impl fmt::Display for Line {
     ghost output = { λ l. Some (written l) };
 
     fn fmt<W: fmt::Write>(&self, f: &mut fmt::Formatter<W>) -> fmt::Result {
-        let crossing = self.crossing;
-        let road = self.road.to_char();
-        let place = self.place;
-        let group = self.group;
-        let with = with_or_without(self.vertex);
-        let leaves = self.leaves;
+        let Line {
+            crossing,
+            road,
+            place,
+            group,
+            vertex,
+            leaves,
+        } = self;
+        let with = with_or_without(*vertex);
         write!(
             f,
             "crossing {crossing} at {road}{place}, group {group} {with} a vertex, leaves at {leaves}\n"
@@ -50,11 +53,7 @@ impl fmt::Display for Line {
 fn line_of(d: &Drawing, crossing: usize) -> Option<Line>
     ensures { result ≡ where_in (crossings d.now) crossing (line_at (crossings d.now) crossing) }
 {
-    let records = d.crossings();
-    if crossing >= records.len() {
-        return None;
-    }
-    let c = records[crossing];
+    let c = d.crossings().get(crossing)?;
     let (road, place) = d.place_of(crossing)?;
     let leaves = d.leaves_at(crossing)?;
     Some(Line {
@@ -74,11 +73,8 @@ fn tell(heap: Global, d: &Drawing) -> Result<String, AllocError>
     let n = d.len();
     let mut text = format!(in heap; "crossings {n}\n")?;
     for i in 0..n {
-        let Some(line) = line_of(d, i) else {
-            unreachable!()
-        };
-        let shown = format!(in heap; "{line}")?;
-        text.push_str(shown.as_str())?;
+        let line = line_of(d, i).unwrap();
+        write!(text, "{line}")?;
     }
     Ok(text)
 }
@@ -87,14 +83,10 @@ fn tell(heap: Global, d: &Drawing) -> Result<String, AllocError>
 fn one_line(input: &[u8]) -> &[u8]
     ensures { result.now ≡ lone input.now }
 {
-    let n = input.len();
-    if n == 0 {
-        return input;
+    match input {
+        [text @ .., b'\n'] => text,
+        _ => input,
     }
-    if input[n - 1] != b'\n' {
-        return input;
-    }
-    &input[0..n - 1]
 }
 
 // What the word on a line of input means, or that it is refused and with which number.

@@ -13,8 +13,8 @@ use symbols::Symbol;
 fn symbols_of(heap: Global, text: &str) -> Result<Vec<Symbol>, AllocError> {
     let mut word = Vec::new(heap);
     for c in text.chars() {
-        if let Some(s) = Symbol::from_char(c) {
-            word.push(s)?;
+        if let Ok(symbol) = Symbol::try_from(c) {
+            word.push(symbol)?;
         }
     }
     Ok(word)
@@ -38,29 +38,21 @@ fn tell_write<S: Store>(
         Ok(()) => 0,
         Err(refusal) => refusal.number(),
     };
-    out.push_str(format!(in heap; "{n} ")?.as_str())
+    write!(out, "{n} ")
 }
 
 // A pixel's word, or the number of its refusal.
-fn tell_word<S: Source>(
-    heap: Global,
-    out: &mut String,
-    store: &S,
-    pixel: u32,
-) -> Result<(), AllocError> {
+fn tell_word<S: Source>(out: &mut String, store: &S, pixel: u32) -> Result<(), AllocError> {
     let mut room = [Symbol::DeadEnd; 64];
     out.push(' ')?;
     match store.word(pixel, &mut room) {
         Ok(n) => {
-            for s in room.iter().take(n) {
-                out.push(s.to_char())?;
+            for symbol in room.iter().take(n) {
+                write!(out, "{symbol}")?;
             }
             Ok(())
         }
-        Err(refusal) => {
-            let n = refusal.number();
-            out.push_str(format!(in heap; "{n}")?.as_str())
-        }
+        Err(refusal) => write!(out, "{}", refusal.number()),
     }
 }
 
@@ -74,27 +66,23 @@ fn tell_store<O: Opens>(
     let mut store = match opening.open() {
         Ok(store) => store,
         Err(e) => {
-            let n = e.refusal.number();
-            return out.push_str(format!(in heap; "refused {n}")?.as_str());
+            return write!(out, "refused {}", e.refusal.number());
         }
     };
     for item in writes.split(' ') {
         tell_write(heap, out, &mut store, item)?;
     }
     out.push('|')?;
-    let last = store.width() as u32 * store.height() as u32;
+    let last = u32::from(store.width()) * u32::from(store.height());
     for pixel in 0..=last {
-        tell_word(heap, out, &store, pixel)?;
+        tell_word(out, &store, pixel)?;
     }
     Ok(())
 }
 
 // The next number of a line.
 fn number_in<'a>(numbers: &'a str) -> Option<(usize, &'a str)> {
-    let (first, rest) = match numbers.split_once(' ') {
-        Some((first, rest)) => (first, rest),
-        None => (numbers, ""),
-    };
+    let (first, rest) = numbers.split_once(' ').unwrap_or((numbers, ""));
     Some((first.parse::<usize>().ok()?, rest))
 }
 

@@ -2,30 +2,22 @@
 --   count_most: a road has no more crossings than there are
 --   place_low: the place of a crossing is below the number of crossings
 --   place_there: and below the count of its road
---   few: a drawing that is held has at most 60 crossings
 --   crossing_there: a place that a road has has a crossing
---   crossing_in_is: then it is the dart's crossing, and one of the drawing's
 --   leaves_in, enters_in: the turns lead to crossings that there are
-use Rattle.std.proofs.Common.{◌≡◌, ℕ, ◌<◌, ◌≤◌, eqb, ltb, List, [], ◌∷◌, length, take, Some, None, Option, sym, ap, ◌∙◌, inl, inr, arith}
+use Rattle.std.proofs.Common.{◌≡◌, ℕ, ◌<◌, ◌≤◌, eqb, ltb, List, [], ◌∷◌, length, take, Some, None, Option, sym, ◌∙◌, inl, inr, arith}
+use Rattle.std.specs.Option.{IsSome}
 use Rattle.std.proofs.lemmas.List.{length-take}
 use Rattle.std.proofs.lemmas.Bool.{cases_Bool, cases_lt, lt-ltb, le-ltb, cond-true, cond-false}
 use Rattle.symbols.specs.declared.symbols.Crossing.{Crossing}
-use Rattle.symbols.specs.Symbols.{road_code}
 use Rattle.rules.specs.Crossings.{before, after, where_in, count_on, place_of, crossing_at}
 use Rattle.rules.proofs.Places.{crossing_found, crossing_none, places_come_back}
 use Rattle.rules.proofs.Turns.{crossings_turn}
-use Rattle.model.specs.declared.darts.Dart.{Dart}
-use Rattle.model.specs.Darts.{or_first}
 use Rattle.model.proofs.Inside.{crossing_some}
-use Rattle.maps.specs.Passing.{crossing_in}
 
 pub count_most : (q : ℕ) (d : List Crossing) → count_on q d ≤ length d
 count_most q [] = omega arith
 count_most q (c ∷ d) =
     elim (cases_Bool (eqb q c.road)) [ inl b ↦ rw b (omega (arith, count_most q d)) | inr b ↦ rw b (omega (arith, count_most q d)) ]
-
-pub few : (n : ℕ) (d : List Crossing) → n ≤ 60 → length (take n d) ≤ 60
-few n d h = simp length-take (omega arith)
 
 pub place_low : (d : List Crossing) (i q p : ℕ) → Some (q, p) ≡ place_of d i → p < length d
 place_low d i q p e =
@@ -44,16 +36,8 @@ place_there d i q p e =
           absurd (omega arith))
     ]
 
-module _ (d : List Crossing) (c : Dart) (h : c.place < count_on (road_code c.road) d) where
-  pub crossing_there : None ≡ crossing_at d (road_code c.road) c.place → ⊥
-  crossing_there e =
-      let s = crossing_some d (road_code c.road) c.place h in
-      let q : ◌≡◌ {A = Option ℕ} None (Some s.0) = e ∙ s.1 in
-      let z : ◌≡◌ {A = ℕ} 0 1 = cc in
-      omega arith
-
-  pub crossing_in_is : (i : ℕ) → Some i ≡ crossing_at d (road_code c.road) c.place → (i ≡ crossing_in d c) × (i < length d)
-  crossing_in_is i e = (ap or_first e, (crossing_found d (road_code c.road) c.place i (sym e)).0)
+pub crossing_there : (d : List Crossing) (q k : ℕ) → k < count_on q d → IsSome (crossing_at d q k)
+crossing_there d q k h = (let s = crossing_some d q k h in rw s.1)
 
 where_is : {A : Type 0} (d : List Crossing) (i : ℕ) (x y : A) → Some y ≡ where_in d i x → (i < length d) × (y ≡ x)
 where_is d i x y e =
@@ -65,8 +49,8 @@ where_is d i x y e =
           absurd (omega arith))
     ]
 
-pub leaves_in : (d : List Crossing) (i j : ℕ) → Some j ≡ where_in d i (before d i) → j < length d
-leaves_in d i j e = (let w = where_is d i (before d i) j e in omega (arith, w.1, (crossings_turn d i w.0).before_in))
+pub leaves_in : (d : List Crossing) (i j : ℕ) → where_in d i (before d i) ≡ Some j → j < length d
+leaves_in d i j e = (let w = where_is d i (before d i) j (sym e) in omega (arith, w.1, (crossings_turn d i w.0).before_in))
 
-pub enters_in : (d : List Crossing) (i j : ℕ) → Some j ≡ where_in d i (after d i) → j < length d
-enters_in d i j e = (let w = where_is d i (after d i) j e in omega (arith, w.1, (crossings_turn d i w.0).after_in))
+pub enters_in : (d : List Crossing) (i j : ℕ) → where_in d i (after d i) ≡ Some j → j < length d
+enters_in d i j e = (let w = where_is d i (after d i) j (sym e) in omega (arith, w.1, (crossings_turn d i w.0).after_in))

@@ -1,5 +1,4 @@
--- How code asks about darts: by size, by drawings and by counts.
---   sized: a size as a sheet; how pixels lie depends on no more
+-- How code asks about darts: by drawings and by counts.
 --   neighbour: the pixel beyond a road; none on the rim
 --   counts_fail: whether a road fails, by its count here and by its count there, if there is a pixel beyond it
 --   far_count: the count of a road on its far side, if there is a pixel beyond it
@@ -7,7 +6,7 @@
 --   turn_in, unturn_in: the turns, by the drawing of the pixel
 --   Left: a dart leaves a pixel that is drawn so
 --   EnteredBy: the opposite dart of one whose road does not fail, and the drawing of its pixel
-use Rattle.std.specs.Prelude.{◌≡◌, ℕ, Bool, true, false, cond, not, [], Some, None, Option, ◌==◌, nat_lt}
+use Rattle.std.specs.Prelude.{◌≡◌, ℕ, Bool, true, false, cond, not, Some, None, Option, ◌==◌, nat_lt}
 use Rattle.symbols.specs.declared.roads.Road.{Road}
 use Rattle.symbols.specs.Symbols.{road_code}
 use Rattle.rules.specs.Words.{Drawing}
@@ -15,9 +14,6 @@ use Rattle.rules.specs.Crossings.{before, after, crossing_at}
 use Rattle.model.specs.declared.darts.Dart.{Dart}
 use Rattle.model.specs.Sheets.{Sheet, drawing_at, on_rim, beyond, facing, count_at, fails}
 use Rattle.model.specs.Darts.{is_dart, or_first, leaving, opposite_of}
-
-abbrev pub sized : ℕ → ℕ → Sheet
-sized w h = record { width = w; height = h; drawings = [] }
 
 abbrev pub neighbour : Sheet → ℕ → Road → Option ℕ
 neighbour s p q = cond (on_rim s p q) None (Some (beyond s p q))

@@ -8,9 +8,8 @@ ghost use Rattle.model.specs.Darts.{is_dart, opposite, next, previous};
 ghost use Rattle.model.specs.Streets.{leaves_vertex};
 ghost use Rattle.stores.specs.Sources.{sheet_told};
 
-use inside::{has_vertex, turn_back, turn_on};
 use model::Dart;
-use passing::{far_count, left_by, pass};
+use passing::{far_count, leaving, pass};
 use pixels::counts_fail;
 use stores::Source;
 use symbols::{Refusal, Road};
@@ -23,44 +22,38 @@ pub use inside::drawing_at;
 
 // The dart that leaves the entered pixel through the same crossing.
 pub fn opposite<S: Source>(source: &S, dart: Dart) -> Result<Dart, Refusal>
-    ensures { result ≡ opposite (sheet_told (S.Source.told source.now)) dart }
+    ensures { result ≡ opposite (sheet_told (S.told source.now)) dart }
 {
-    let drawing = left_by(source, dart)?;
-    let entered = pass(source, &drawing, dart)?;
-    Ok(entered.dart)
+    let left = leaving(source, dart)?;
+    Ok(pass(source, &left)?.dart)
 }
 
 // The dart that leaves the entered pixel by the crossing before the entered one in its group.
 pub fn next<S: Source>(source: &S, dart: Dart) -> Result<Dart, Refusal>
-    ensures { result ≡ next (sheet_told (S.Source.told source.now)) dart }
+    ensures { result ≡ next (sheet_told (S.told source.now)) dart }
 {
-    let drawing = left_by(source, dart)?;
-    let entered = pass(source, &drawing, dart)?;
-    Ok(turn_back(&entered.drawing, entered.dart))
+    let left = leaving(source, dart)?;
+    Ok(pass(source, &left)?.turn_back().dart)
 }
 
 // The dart whose next this one is.
 pub fn previous<S: Source>(source: &S, dart: Dart) -> Result<Dart, Refusal>
-    ensures { result ≡ previous (sheet_told (S.Source.told source.now)) dart }
+    ensures { result ≡ previous (sheet_told (S.told source.now)) dart }
 {
-    let drawing = left_by(source, dart)?;
-    let entered = pass(source, &drawing, turn_on(&drawing, dart))?;
-    Ok(entered.dart)
+    let left = leaving(source, dart)?;
+    Ok(pass(source, &left.turn_on())?.dart)
 }
 
 // Whether the sheet has a dart.
 pub fn is_dart<S: Source>(source: &S, dart: Dart) -> bool
-    ensures { result ≡ is_dart (sheet_told (S.Source.told source.now)) dart }
+    ensures { result ≡ is_dart (sheet_told (S.told source.now)) dart }
 {
-    match left_by(source, dart) {
-        Ok(_) => true,
-        Err(_) => false,
-    }
+    leaving(source, dart).is_ok()
 }
 
 // Whether a road fails, if there is such a pixel.
 pub fn road_fails<S: Source>(source: &S, pixel: u32, road: Road) -> Option<bool>
-    ensures { result ≡ (if nat_lt pixel (pixels (sheet_told (S.Source.told source.now))) then Some (fails (sheet_told (S.Source.told source.now)) pixel road) else None) }
+    ensures { result ≡ (if nat_lt pixel (pixels (sheet_told (S.told source.now))) then Some (fails (sheet_told (S.told source.now)) pixel road) else None) }
 {
     let drawing = drawing_at(source, pixel)?;
     Some(counts_fail(drawing.count_on(road), far_count(source, pixel, road)))
@@ -68,8 +61,7 @@ pub fn road_fails<S: Source>(source: &S, pixel: u32, road: Road) -> Option<bool>
 
 // Whether a dart leaves a group that has a vertex; refused where there is no such dart.
 pub fn leaves_vertex<S: Source>(source: &S, dart: Dart) -> Result<bool, Refusal>
-    ensures { result ≡ (if is_dart (sheet_told (S.Source.told source.now)) dart then Ok (leaves_vertex (sheet_told (S.Source.told source.now)) dart) else Err NoDart) }
+    ensures { result ≡ (if is_dart (sheet_told (S.told source.now)) dart then Ok (leaves_vertex (sheet_told (S.told source.now)) dart) else Err NoDart) }
 {
-    let drawing = left_by(source, dart)?;
-    Ok(has_vertex(&drawing, dart))
+    Ok(leaving(source, dart)?.has_vertex())
 }

@@ -1,35 +1,36 @@
-// How pixels lie, by the size of a sheet.
-ghost use Rattle.std.specs.Prelude.{◌≡◌, ◌+◌, ◌-◌, ◌^◌, ◌<◌, ◌≤◌};
-ghost use Rattle.model.specs.Sheets.{on_rim, beyond, facing};
-ghost use Rattle.maps.specs.Passing.{sized, neighbour, counts_fail};
+// How pixels lie on a sheet.
+ghost use Rattle.std.specs.Prelude.{◌≡◌, ◌-◌, ◌<◌, ◌≤◌};
+ghost use Rattle.model.specs.Sheets.{pixels, on_rim, beyond, facing};
+ghost use Rattle.stores.specs.Sources.{sheet_told};
+ghost use Rattle.maps.specs.Passing.{neighbour, counts_fail};
 
+use stores::Source;
 use symbols::Road;
 
 // Whether a road lies on the rim.
-fn on_rim(width: u16, height: u16, pixel: u32, road: Road) -> bool
-    requires { 1 ≤ width }
-    ensures { result ≡ on_rim (sized width height) pixel road }
+fn on_rim<S: Source>(source: &S, pixel: u32, road: Road) -> bool
+    ensures { result ≡ on_rim (sheet_told (S.told source.now)) pixel road }
 {
-    let row = u64::from(width);
+    let row = u64::from(source.width());
     let at = u64::from(pixel);
     match road {
         Road::West => at % row == 0,
         Road::North => at < row,
         Road::East => at % row + 1 == row,
-        Road::South => !(at + row < row * u64::from(height)),
+        Road::South => !(at + row < row * u64::from(source.height())),
     }
 }
 
 // The pixel on the other side of a road that is not on the rim.
-fn beyond(width: u16, pixel: u32, road: Road) -> u32
-    requires { pixel + width + 1 < 2 ^ 32 }
-    ensures { result ≡ beyond (sized width 0) pixel road }
+fn beyond<S: Source>(source: &S, pixel: u32, road: Road) -> u32
+    requires { pixel < pixels (sheet_told (S.told source.now)) }
+    ensures { result ≡ beyond (sheet_told (S.told source.now)) pixel road }
 {
     match road {
         Road::West => pixel.saturating_sub(1),
-        Road::North => pixel.saturating_sub(u32::from(width)),
+        Road::North => pixel.saturating_sub(u32::from(source.width())),
         Road::East => pixel + 1,
-        Road::South => pixel + u32::from(width),
+        Road::South => pixel + u32::from(source.width()),
     }
 }
 
@@ -56,14 +57,14 @@ pub(crate) fn counts_fail(here: usize, there: Option<usize>) -> bool
 }
 
 // The pixel on the other side of a road, if there is one.
-pub(crate) fn neighbour(width: u16, height: u16, pixel: u32, road: Road) -> Option<u32>
-    requires { (1 ≤ width) × (pixel + width + 1 < 2 ^ 32) }
-    ensures { result ≡ neighbour (sized width height) pixel road }
+pub(crate) fn neighbour<S: Source>(source: &S, pixel: u32, road: Road) -> Option<u32>
+    requires { pixel < pixels (sheet_told (S.told source.now)) }
+    ensures { result ≡ neighbour (sheet_told (S.told source.now)) pixel road }
 {
-    if on_rim(width, height, pixel, road) {
+    if on_rim(source, pixel, road) {
         return None;
     }
-    Some(beyond(width, pixel, road))
+    Some(beyond(source, pixel, road))
 }
 
 // Where a place of so many is counted from the other side.

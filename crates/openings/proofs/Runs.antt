@@ -1,29 +1,20 @@
--- Runs of writes, and the limits of an opening.
---   run_more, run_all: one write more, and no write left
+-- What a store is after its opening, and the limits of an opening.
 --   replayed: a store that was opened and ran so
 --   slots_within, slots_without: slots that can be opened have limits, and others have none
 --   strip_within, strip_without: the same of a strip
 --   either: what holds in each case of a result, told otherwise
-use Rattle.std.proofs.Common.{◌≡◌, ℕ, zero, suc, ◌+◌, ◌*◌, ◌<◌, ◌≤◌, Bool, true, ◌&&◌, leb, List, [], ◌∷◌, map, length, get_or, drop, replicate, Some, None, Ok, Err, Option, Result, sym, refl, ap, ◌∙◌, inl, inr, arith, MatchResult}
-use Rattle.std.proofs.lemmas.List.{at_drop_more, at_drop_all, get_or-map}
+use Rattle.std.proofs.Common.{◌≡◌, ℕ, zero, suc, ◌*◌, Bool, true, ◌&&◌, leb, List, [], ◌∷◌, map, get_or, replicate, Some, None, Ok, Err, Option, Result, sym, refl, ap, ◌∙◌, inl, inr, arith, MatchResult}
+use Rattle.std.proofs.lemmas.List.{get_or-map}
 use Rattle.std.proofs.lemmas.Bool.{leb-true, le-leb, and_parts, and_from, cases_Bool, cond-true, cond-false}
 use Rattle.rules.specs.Words.{Drawing, drawn}
 use Rattle.codec.specs.Records.{side}
 use Rattle.codec.proofs.Records.{side_from, side_parts}
-use Rattle.plain.specs.Plain.{Plain, Call, Opens, step, run}
+use Rattle.plain.specs.Plain.{Plain, Call, Opens, run}
 use Rattle.plain.proofs.Runs.{last_accepted_there}
 use Rattle.stores.specs.Sources.{Told, fresh, empty_word, plain_told}
 use Rattle.slots.specs.Slots.{OpensSlots}
-use Rattle.openings.specs.declared.Write.{Write}
 use Rattle.openings.specs.Limits.{Limits, opened_within, slot_limits, strip_limits}
-use Rattle.openings.specs.Replays.{call_of, script, OpenedWithin, Replayed}
-
-pub run_more : (p q : Plain) (ws : List Write) (i : ℕ) (d : Write) → i < length ws → q ≡ step p (call_of (get_or ws i d)) → run q (script (drop (i + 1) ws)) ≡ run p (script (drop i ws))
-run_more p q ws i d h e =
-    ap (λ (x : Plain). run x (script (drop (i + 1) ws))) e ∙ sym (at_drop_more (λ xs. run p (script xs)) ws i d h)
-
-pub run_all : (p : Plain) (ws : List Write) (i : ℕ) → length ws ≤ i → run p (script (drop i ws)) ≡ p
-run_all p ws i h = at_drop_all (λ xs. run p (script xs)) ws i h
+use Rattle.openings.specs.Replays.{OpenedWithin, Replayed}
 
 pub replayed : (limits : Option Limits) (p : Plain) (calls : List Call) (t : Told) (l n : ℕ) → OpenedWithin limits p → plain_told t l n ≡ run p calls → Replayed limits calls t l n
 replayed limits p calls t l n o e =

@@ -3,13 +3,12 @@
 
 ghost use Rattle.std.specs.Prelude.{◌≡◌, ℕ, List, Some, None, vec_len, Option, MatchResult};
 ghost use Rattle.symbols.specs.declared.refusals.Refusal.TheVariants.{Opening};
-ghost use Rattle.plain.specs.Plain.{run, step};
-ghost use Rattle.stores.specs.Sources.{plain_told};
+ghost use Rattle.stores.specs.Sources.{plain_kept};
 ghost use Rattle.openings.specs.Limits.{Limits, slot_limits, strip_limits};
 ghost use Rattle.openings.specs.Replays.{call_of, script, OpenedWithin, Replayed};
 
 use slots::SlotStore;
-use stores::{Source, Store, Unopened};
+use stores::{Source, Step, Store, Unopened, replay};
 use strips::StripStore;
 use symbols::{Refusal, Symbol};
 
@@ -26,7 +25,7 @@ pub trait Opens: Sized + Drop {
     // Opens the store, with the empty word at every pixel. Refused, the memory comes back as it was.
     fn open(self) -> Result<Self::Opened, Unopened>
         ensures { MatchResult result
-            (λ s. OpenedWithin (limits self) (plain_told (Self.Opened.Source.told s) (Self.Opened.Store.longest s) (Self.Opened.Store.total s)))
+            (λ s. OpenedWithin (limits self) (plain_kept Self.Opened.told Self.Opened.longest Self.Opened.total s))
             (λ e. (limits self ≡ None) × (e.refusal ≡ Opening) × (e.memory.items ≡ memory self)) };
 }
 
@@ -89,28 +88,21 @@ pub struct Write<'a> {
     pub word: &'a [Symbol],
 }
 
-// Makes one write, and goes on where it is refused.
-fn apply<S: Store>(store: &mut S, write: &Write<'_>)
-    ensures { plain_told (S.Source.told store.new) (S.Store.longest store.new) (S.Store.total store.new) ≡ step (plain_told (S.Source.told store.old) (S.Store.longest store.old) (S.Store.total store.old)) (call_of write.now) }
-{
-    let _ = store.write(write.pixel, write.word);
-}
+impl Step for Write<'_> {
+    ghost call = { call_of };
 
-// Makes one write after another, and goes on where one is refused.
-pub fn replay<S: Store>(store: &mut S, writes: &[Write<'_>])
-    ensures { plain_told (S.Source.told store.new) (S.Store.longest store.new) (S.Store.total store.new) ≡ run (plain_told (S.Source.told store.old) (S.Store.longest store.old) (S.Store.total store.old)) (script writes.now) }
-{
-    for write in writes {
-        apply(store, write);
+    fn make<S: Store>(&self, store: &mut S) -> Result<(), Refusal> {
+        store.write(self.pixel, self.word)
     }
 }
 
 // Opens a store and makes the writes. Whatever the store, and whichever writes are refused, each pixel has the word that
 // was accepted last there.
+#[tactic(auto, using(crate::proofs::Runs::replayed))]
 pub fn open_and_replay<O: Opens>(opening: O, writes: &[Write<'_>]) -> Result<O::Opened, Unopened>
     ensures { MatchResult result
-        (λ s. Replayed (O.Opens.limits opening) (script writes.now) (O.Opened.Source.told s) (O.Opened.Store.longest s) (O.Opened.Store.total s))
-        (λ e. (O.Opens.limits opening ≡ None) × (e.refusal ≡ Opening) × (e.memory.items ≡ O.Opens.memory opening)) }
+        (λ s. Replayed (O.limits opening) (script writes.now) (O.Opened.told s) (O.Opened.longest s) (O.Opened.total s))
+        (λ e. (O.limits opening ≡ None) × (e.refusal ≡ Opening) × (e.memory.items ≡ O.memory opening)) }
 {
     let mut store = opening.open()?;
     replay(&mut store, writes);

@@ -1,8 +1,10 @@
 -- A sheet loaded into slots of 64.
+--   opened: what holds of a value that was given
 --   short_drawn, none_over: no word of a sheet is over 64 symbols
 --   Roomy, Loaded, loads: loading a sheet's record into slots of 64 is accepted, and the slots then have that sheet
 --   roomy: slots of 64 as they are opened
-use Rattle.std.proofs.Common.{◌≡◌, ℕ, ◌*◌, ◌≤◌, Bool, false, cond, eqb, ltb, List, [], ◌∷◌, length, Some, Ok, Err, Option, Result, sym, refl, ap, ◌∙◌, arith}
+use Rattle.std.proofs.Common.{◌≡◌, ℕ, ◌*◌, ◌≤◌, Bool, false, cond, eqb, ltb, List, [], ◌∷◌, length, Some, Ok, Err, Option, Result, sym, refl, ap, ◌∙◌, subst, arith}
+use Rattle.std.specs.Result.{MatchResult, result_ok}
 use Rattle.std.specs.List.{AllByRecursion}
 use Rattle.std.proofs.ByRecursion.{sum_by_le}
 use Rattle.std.proofs.lemmas.Bool.{le-ltb, eq-eqb, or_from, and_from}
@@ -13,6 +15,10 @@ use Rattle.model.specs.Sheets.{Sheet, Sheetly, IsDrawing}
 use Rattle.codec.specs.Records.{sheet_of}
 use Rattle.stores.specs.Sources.{Told, fresh, plain_told}
 use Rattle.plain.specs.Plain.{Plain, load, symbols_in, symbols_of, some_over, limited, outcome, replace, answer, step, left_by, answered, sheet_in}
+
+pub opened : {A E : Type 0} (P : A → Type 0) (Q : E → Type 0) (r : Result A E) (x : A) → MatchResult r P Q → result_ok r ≡ Some x → P x
+opened P Q (Ok y) x m e = (let z : y ≡ x = cc in subst P z m)
+opened P Q (Err f) x m e = (let z : ◌≡◌ {A = ℕ} 0 1 = cc in absurd (omega arith))
 
 short_drawn : (ds : List Drawing) → AllByRecursion IsDrawing ds → AllByRecursion (λ d. symbols_in d ≤ 64) ds
 short_drawn [] a = tt

@@ -1,22 +1,22 @@
 -- The words of a source that a record holds.
 --   blank_part, shown_whole: a lawful word of four symbols draws nothing, and any other draws something
---   Held: n symbols in memory are those that a record has of a pixel
---   held_some, held_blank, held_none: what is held where 64 symbols were lent and a word is asked for
+--   shown_long, shown_blank: a pixel's word, by its length
+--   seen: there is a word exactly where a record has symbols of it
 --   mark_at: a pixel is marked exactly when a record has symbols of it
 --   marks_length: there is a mark for each word
 --   pixels_most: there are at most 4096 pixels
 --   symbols_shown: the symbols of a record, word by word
 --   left_from, left_more, left_none, left_most: how many symbols the words from a pixel on have
 --   putting_from, words_more, words_all: the words from a pixel on, put behind symbols, as the loop over pixels puts them
-use Rattle.std.proofs.Common.{◌≡◌, ℕ, zero, suc, ◌+◌, ◌*◌, ◌<◌, ◌≤◌, Bool, true, false, cond, ltb, ◌⊎◌, List, [], ◌∷◌, ◌++◌, map, length, get_or, take, drop, Ok, Err, filter, Result, sym, refl, ap, ◌∙◌, inl, inr, arith, length-append}
+use Rattle.std.proofs.Common.{is_some, Some, None, Option, MatchOption, ◌≡◌, ℕ, zero, suc, ◌+◌, ◌*◌, ◌<◌, ◌≤◌, Bool, true, false, cond, ltb, List, [], ◌∷◌, ◌++◌, map, length, get_or, drop, filter, sym, refl, ap, ◌∙◌, arith, length-append}
 use lib.ListN.{length-map}
 use Rattle.std.specs.List.{flat_map, AllByRecursion}
-use Rattle.std.proofs.lemmas.List.{get_or_past, take_at, at_drop_more, at_drop_all}
+use Rattle.std.proofs.lemmas.List.{at_drop_more, at_drop_all}
 use Rattle.std.proofs.ByRecursion.{All-get_or}
 use Rattle.std.proofs.lemmas.Nat.{mul-le}
-use Rattle.std.proofs.lemmas.Bool.{lt-ltb, le-ltb, cond-true, cond-false, cond_both, cases_lt}
-use Rattle.symbols.specs.declared.refusals.Refusal.{Refusal}
-use Rattle.symbols.specs.declared.refusals.Refusal.TheVariants.{NoPixel}
+use Rattle.std.proofs.lemmas.Bool.{lt-ltb, cond-true, cond-false, cond_both}
+use Rattle.rows.specs.declared.row.Row.{Row}
+use Rattle.rows.specs.Rows.{items}
 use Rattle.symbols.specs.declared.symbols.Symbol.{Symbol}
 use Rattle.rules.specs.Words.{Drawing, Lawful, drawn}
 use Rattle.rules.specs.Tables.{word_of}
@@ -25,10 +25,10 @@ use Rattle.codec.specs.Words.{symbol_bits, shown, shown_symbols}
 use Rattle.codec.proofs.Reading.{joined_append}
 use Rattle.codec.proofs.Words.{word_drawing, marked_at}
 use Rattle.codec.proofs.Loops.{length_symbols}
-use Rattle.stores.specs.Sources.{Told, LawfulTold, word_at, word_answer, word_memory}
+use Rattle.stores.specs.Sources.{Told, LawfulTold, word_at}
 use Rattle.stores.proofs.Writes.{counted}
 use Rattle.recorder.specs.Packing.{put_bits, packed}
-use Rattle.recorder.specs.Words.{shown_part, shown_word, marks_told}
+use Rattle.recorder.specs.Words.{shown_part, shown_word, Shown, marks_told}
 use Rattle.recorder.proofs.Bits.{puts_join, packs}
 
 no_crossing : (d : Drawing) → length d ≡ 0 → shown d ≡ false
@@ -45,80 +45,27 @@ blank_part w l e = cond-false (shown (drawn w)) w [] (no_crossing (drawn w) (ome
 pub shown_whole : (w : List Symbol) → Lawful w → (length w ≡ 4 → ⊥) → shown_part w ≡ w
 shown_whole w l n = cond-true (shown (drawn w)) w [] (some_crossing (drawn w) (λ e. n (omega (arith, counted w l))))
 
--- n symbols at the front of memory are those that a record has of a pixel
-pub record Held (t : Told) (p n : ℕ) (memory : List Symbol) : Type 0 where
-  pub len : n ≡ length (shown_word t p)
-  pub word : take n memory ≡ shown_word t p
-  pub most : n ≤ 64
+-- a pixel's word, by its length
+pub shown_long : (t : Told) → LawfulTold t → (p : ℕ) (w : List Symbol) → p < t.width * t.height → w ≡ word_at t p → (length w ≡ 4 → ⊥) → Shown t p w
+shown_long t l p w h e n =
+    let good : Lawful (word_at t p) = All-get_or Lawful t.words p [] (omega (arith, l.whole)) l.words in
+    let sizes = parts (word_at t p) good in
+    let long : length w ≡ length (word_at t p) = ap length e in
+    record {
+      word = e ∙ sym (shown_whole (word_at t p) good (λ k. n (long ∙ k)));
+      some = omega (arith, sizes.least, long, n);
+      most = omega (arith, sizes.most, long);
+    }
 
-ok_not_err : {A : Type 0} {n : A} {e : Refusal} → ◌≡◌ {A = Result A Refusal} (Ok n) (Err e) → ⊥
-ok_not_err q = let z : ◌≡◌ {A = ℕ} 0 1 = cc in omega arith
+pub shown_blank : (t : Told) → LawfulTold t → (p : ℕ) (w : List Symbol) → p < t.width * t.height → w ≡ word_at t p → length w ≡ 4 → shown_word t p ≡ []
+shown_blank t l p w h e n =
+    let good : Lawful (word_at t p) = All-get_or Lawful t.words p [] (omega (arith, l.whole)) l.words in
+    blank_part (word_at t p) good (ap length (sym e) ∙ n)
 
-nothing : (t : Told) (p : ℕ) (memory : List Symbol) → shown_word t p ≡ [] → Held t p 0 memory
-nothing t p memory e = record { len = sym (ap length e); word = sym e; most = omega arith }
-
--- the word of pixel p is asked for under the number q
-module _ (t : Told) (l : LawfulTold t) (p q : ℕ) (same : q ≡ p) (lent : List Symbol) (room : 64 ≤ length lent) where
-  -- there is a pixel, and the answer is its word's length
-  record Answered : Type 0 where
-    good : Lawful (word_at t p)
-    least : 4 ≤ length (word_at t p)
-    most : length (word_at t p) ≤ 64
-    told : word_answer t q lent ≡ Ok (length (word_at t p))
-    holds : word_memory t q lent ≡ word_at t p ++ drop (length (word_at t p)) lent
-
-  answered : p < t.width * t.height → Answered
-  answered h =
-      let w = word_at t p in
-      let good : Lawful w = All-get_or Lawful t.words p [] (omega (arith, l.whole)) l.words in
-      let sizes = parts w good in
-      let most : length w ≤ 64 = sizes.most in
-      let here = lt-ltb p (t.width * t.height) h in
-      let fits = le-ltb (length lent) (length w) (omega arith) in
-      record {
-        good = good;
-        least = sizes.least;
-        most = most;
-        told = ap (λ (x : ℕ). word_answer t x lent) same ∙ cond-true _ _ _ here ∙ cond-false _ _ _ fits;
-        holds = ap (λ (x : ℕ). word_memory t x lent) same ∙ cond-true _ _ _ here ∙ cond-false _ _ _ fits;
-      }
-
-  refused : t.width * t.height ≤ p → word_answer t q lent ≡ Err NoPixel
-  refused h = ap (λ (x : ℕ). word_answer t x lent) same ∙ cond-false _ _ _ (le-ltb p (t.width * t.height) h)
-
-  pub held_some : (n : ℕ) (memory : List Symbol) → Ok n ≡ word_answer t q lent → memory ≡ word_memory t q lent → (n ≡ 4 → ⊥) → Held t p n memory
-  held_some n memory e m b = by (cases_lt p (t.width * t.height))
-    where
-      by : (p < t.width * t.height) ⊎ (t.width * t.height ≤ p) → Held t p n memory
-      by (inl h) =
-          let w = word_at t p in
-          let a = answered h in
-          let long : n ≡ length w = let k : Ok n ≡ Ok (length w) = e ∙ a.told in cc in
-          let whole : shown_word t p ≡ w = shown_whole w a.good (λ k. b (long ∙ k)) in
-          record {
-            len = long ∙ sym (ap length whole);
-            word = ap (take n) (m ∙ a.holds) ∙ take_at w (drop (length w) lent) n (sym long) ∙ sym whole;
-            most = omega (arith, a.most);
-          }
-      by (inr h) = absurd (ok_not_err (e ∙ refused h))
-
-  pub held_blank : (n : ℕ) (memory : List Symbol) → Ok n ≡ word_answer t q lent → n ≡ 4 → Held t p 0 memory
-  held_blank n memory e b = by (cases_lt p (t.width * t.height))
-    where
-      by : (p < t.width * t.height) ⊎ (t.width * t.height ≤ p) → Held t p 0 memory
-      by (inl h) =
-          let w = word_at t p in
-          let a = answered h in
-          let long : n ≡ length w = let k : Ok n ≡ Ok (length w) = e ∙ a.told in cc in
-          nothing t p memory (blank_part w a.good (sym long ∙ b))
-      by (inr h) = absurd (ok_not_err (e ∙ refused h))
-
-  pub held_none : (f : Refusal) (memory : List Symbol) → Err f ≡ word_answer t q lent → Held t p 0 memory
-  held_none f memory e = by (cases_lt p (t.width * t.height))
-    where
-      by : (p < t.width * t.height) ⊎ (t.width * t.height ≤ p) → Held t p 0 memory
-      by (inl h) = absurd (ok_not_err (sym (e ∙ (answered h).told)))
-      by (inr h) = nothing t p memory (ap shown_part (get_or_past t.words p [] (omega (arith, l.whole))))
+-- there is a word exactly where a record has symbols of it
+pub seen : (t : Told) (p : ℕ) (o : Option (Row Symbol 64)) → MatchOption o (shown_word t p ≡ []) (λ w. Shown t p (items w)) → is_some o ≡ ltb 0 (length (shown_word t p))
+seen t p None e = sym (ap (λ (v : List Symbol). ltb 0 (length v)) e)
+seen t p (Some r) s = sym (lt-ltb 0 (length (shown_word t p)) (omega (arith, s.some, ap length s.word)))
 
 -- all words
 

@@ -8,6 +8,5 @@ pub(crate) fn put_number(out: &mut [u8], at: usize, n: u16)
     requires { at + 2 ≤ length out.old }
     ensures { out.new ≡ put_bytes out.old at (two n) }
 {
-    out[at] = (n / 256) as u8;
-    out[at + 1] = (n % 256) as u8;
+    out[at..at + 2].copy_from_slice(&n.to_be_bytes());
 }

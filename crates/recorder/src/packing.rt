@@ -39,7 +39,7 @@ fn push_symbol(part: &mut [u8], n: usize, symbol: Symbol)
     requires few { n < 2 ^ 32 }
     ensures { part.new ≡ put_bits part.old (3 * n) (symbol_bits symbol) }
 {
-    let code = symbol.to_code();
+    let code = u8::from(symbol);
     push_bit(part, 3 * n, code / 4 % 2 == 1);
     push_bit(part, 3 * n + 1, code / 2 % 2 == 1);
     push_bit(part, 3 * n + 2, code % 2 == 1);

@@ -22,31 +22,38 @@ fn ended_run(first: Option<u16>, marked: bool) -> Option<u16>
 fn open_run(first: Option<u16>, pixel: u16, marked: bool) -> Option<u16>
     ensures { result ≡ still_open first pixel marked }
 {
-    match (first, marked) {
-        (_, false) => None,
-        (None, true) => Some(pixel),
-        (Some(p), true) => Some(p),
-    }
+    marked.then_some(first.unwrap_or(pixel))
 }
 
-// Writes the run from a first pixel up to a pixel, if there is one, and tells where the next one goes.
-fn put_run(out: &mut [u8], at: usize, first: Option<u16>, pixel: u16) -> usize
-    requires begun { Begun first pixel }
-    requires room { at + 4 * length (run_from first pixel) ≤ length out.old }
-    ensures is { result ≡ at + 4 * length (run_from first pixel) }
-    ensures memory { out.new ≡ put_bytes out.old at (flat_map run_bytes (run_from first pixel)) }
-{
-    let Some(first) = first else {
-        return at;
-    };
-    put_number(out, at, first);
-    put_number(out, at + 2, pixel - first);
-    at + 4
+// Memory that is lent, and where the next byte goes.
+#[derive(Drop)]
+pub(crate) struct Out<'m> {
+    pub(crate) bytes: &'m mut [u8],
+    pub(crate) at: usize,
+}
+
+impl Out<'_> {
+    // Writes the run from a first pixel up to a pixel, if there is one.
+    fn put_run(&mut self, first: Option<u16>, pixel: u16)
+        requires begun { Begun first pixel }
+        requires room { self.old.at + 4 * length (run_from first pixel) ≤ length self.old.bytes.now }
+        ensures same_reference { self.new.bytes.ghost_name ≡ self.old.bytes.ghost_name }
+        ensures len { length self.new.bytes.now ≡ length self.old.bytes.now }
+        ensures is { self.new.at ≡ self.old.at + 4 * length (run_from first pixel) }
+        ensures memory { self.new.bytes.now ≡ put_bytes self.old.bytes.now self.old.at (flat_map run_bytes (run_from first pixel)) }
+    {
+        let Some(first) = first else {
+            return;
+        };
+        put_number(self.bytes, self.at, first);
+        put_number(self.bytes, self.at + 2, pixel - first);
+        self.at += 4;
+    }
 }
 
 // How many runs there are. The place behind the last pixel ends the last run.
 pub(crate) fn count_runs<S: Source>(source: &S) -> u16
-    ensures is { result ≡ length (runs 0 (marks_told (S.Source.told source.now))) }
+    ensures is { result ≡ length (runs 0 (marks_told (S.told source.now))) }
     ensures most { result ≤ 4096 }
 {
     let mut n: u16 = 0;
@@ -61,14 +68,14 @@ pub(crate) fn count_runs<S: Source>(source: &S) -> u16
 
 // Writes the runs behind one another from a place on.
 pub(crate) fn write_runs<S: Source>(source: &S, out: &mut [u8], at: usize)
-    requires { at + 4 * length (runs 0 (marks_told (S.Source.told source.now))) ≤ length out.old }
-    ensures { out.new ≡ put_bytes out.old at (flat_map run_bytes (runs 0 (marks_told (S.Source.told source.now)))) }
+    requires { at + 4 * length (runs 0 (marks_told (S.told source.now))) ≤ length out.old }
+    ensures { out.new ≡ put_bytes out.old at (flat_map run_bytes (runs 0 (marks_told (S.told source.now)))) }
 {
-    let mut at = at;
+    let mut out = Out { bytes: out, at };
     let mut first: Option<u16> = None;
     for pixel in 0..pixel_count(source) + 1 {
         let marked = is_shown(source, pixel);
-        at = put_run(out, at, ended_run(first, marked), pixel);
+        out.put_run(ended_run(first, marked), pixel);
         first = open_run(first, pixel, marked);
     }
 }

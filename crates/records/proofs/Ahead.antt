@@ -1,30 +1,28 @@
 -- The words of a record passed in order.
 --   ahead_first: before the first pixel all words are to come
 --   spot_low: no run to come holds a pixel before them
---   not_ahead, enter: no run begins at the present pixel, or one does
---   outside_word, outside_on: a pixel in no run, and the words behind it
+--   enter: a run begins at the present pixel
+--   outside_word: a pixel in no run
 --   inside_word, inside_on: a pixel in a run, and the words behind it
---   behind_cut, behind_none: the words behind one that is cut off
---   first_none, first_bad, first_fine: the first of the words: wanting, not lawful, or lawful
+--   behind_none: the words behind one that is wanting
 --   same_encoded: words with the same codes
---   same_ahead, gone_on, stands, no_word: what is told of the present pixel, and the pixel behind it
-use Rattle.std.proofs.Common.{◌≡◌, ℕ, zero, suc, ◌+◌, ◌-◌, ◌*◌, ◌<◌, ◌≤◌, Bool, true, false, cond, ◌&&◌, eqb, ltb, leb, List, [], ◌∷◌, drop, Some, None, Option, sym, refl, ap, ◌∙◌, arith}
+--   same_ahead, one_on: what is told of the present pixel, and the words to come
+use Rattle.std.proofs.Common.{◌≡◌, ℕ, zero, suc, ◌+◌, ◌-◌, ◌*◌, ◌<◌, ◌≤◌, Bool, true, false, cond, eqb, ltb, leb, List, [], ◌∷◌, length, get_or, drop, Some, None, Option, sym, refl, ap, ◌∙◌, arith}
 use Rattle.std.specs.Option.{option_map}
-use Rattle.std.proofs.lemmas.Bool.{true≢false, and_parts, and_from, and_left, eqb-true, eq-eqb, leb-true, leb-false, le-leb, lt-leb, lt-ltb, le-ltb}
+use Rattle.std.proofs.lemmas.Bool.{and_parts, and_left, eqb-true, le-leb, lt-leb, lt-ltb, le-ltb}
 use Rattle.symbols.specs.declared.symbols.Symbol.{Symbol}
 use Rattle.rules.specs.Words.{lawful}
 use Rattle.codec.specs.Reading.{and_then, guard}
 use Rattle.codec.specs.Words.{cut}
 use Rattle.codec.specs.Runs.{Run, within}
-use Rattle.std.proofs.lemmas.List.{get_or_past}
+use Rattle.std.proofs.lemmas.List.{drop_more}
 use Rattle.stores.specs.Bytes.{encoded, decoded}
-use Rattle.stores.specs.Sources.{Told, LawfulTold, empty_word, word_at}
+use Rattle.stores.specs.Sources.{empty_word}
 use Rattle.stores.proofs.Fronts.{decoded_encoded}
 use Rattle.records.specs.Stretches.{follows, spot}
 use Rattle.records.specs.Behind.{any_word, skips, word_behind}
 use Rattle.records.specs.Told.{or_empty_word, word_in}
-use Rattle.records.specs.Source.{next_pixel}
-use Rattle.records.specs.Ahead.{begins, raised, spot_ahead, word_ahead, SameBehind}
+use Rattle.records.specs.Ahead.{begins, spot_ahead, word_ahead, SameBehind}
 use Rattle.records.proofs.Spots.{follows_parts}
 
 pub ahead_first : (end : ℕ) (rs : List Run) (bits : List Bool) (k : ℕ) → word_ahead end 0 0 0 rs bits k ≡ word_in end rs bits k
@@ -45,45 +43,6 @@ spot_low low end (r ∷ rs) k h = by (follows low end r) refl (λ q. spot_low (s
         let w : within r k ≡ false = and_left (leb r.offset k) (ltb k (r.offset + r.count)) (lt-leb r.offset k (omega arith)) in
         rw (w, ih (omega arith))
     by false e ih = refl
-
--- where the next run may begin is told anew
-follows_raised : (low end p : ℕ) (r : Run) → p ≤ low → begins low end r p ≡ false → follows (raised low p) end r ≡ follows low end r
-follows_raised low end p r h e = by (leb low p) refl
-  where
-    late : (t : Bool) → leb r.offset p ≡ t → low ≡ p → begins low end r p ≡ false → (leb (p + 1) r.offset && (leb 1 r.count && leb (r.offset + r.count) end)) ≡ (leb low r.offset && (leb 1 r.count && leb (r.offset + r.count) end))
-    late true t q b = early (leb low r.offset) refl (leb 1 r.count && leb (r.offset + r.count) end) refl
-      where
-        o : r.offset ≤ p
-        o = leb-true r.offset p t
-
-        n : leb (p + 1) r.offset ≡ false
-        n = lt-leb (p + 1) r.offset (omega (arith, o))
-
-        early : (u : Bool) → leb low r.offset ≡ u → (v : Bool) → (leb 1 r.count && leb (r.offset + r.count) end) ≡ v → (leb (p + 1) r.offset && v) ≡ (u && v)
-        early true l true v =
-            let m : low ≤ r.offset = leb-true low r.offset l in
-            absurd (true≢false (sym (and_from (follows low end r) (eqb r.offset p) (and_from (leb low r.offset) (leb 1 r.count && leb (r.offset + r.count) end) l v) (eq-eqb r.offset p (omega (arith, o, q, m)))) ∙ b))
-        early true l false v = and_left (leb (p + 1) r.offset) false n
-        early false l w v = and_left (leb (p + 1) r.offset) w n
-    late false t q b =
-        let o : p < r.offset = leb-false r.offset p t in
-        let m : leb (p + 1) r.offset ≡ true = le-leb (p + 1) r.offset (omega arith) in
-        let l : leb low r.offset ≡ true = le-leb low r.offset (omega arith) in
-        rw (m, l)
-
-    by : (t : Bool) → leb low p ≡ t → follows (cond t (p + 1) low) end r ≡ follows low end r
-    by true t = (let l = leb-true low p t in late (leb r.offset p) refl (omega arith) e)
-    by false t = refl
-
-not_here : (low end p : ℕ) (rs rest : List Run) (r : Run) (k : ℕ) → rs ≡ r ∷ rest → p ≤ low → begins low end r p ≡ false → spot (raised low p) end rs k ≡ spot low end rs k
-not_here low end p rs rest r k is h e =
-    ap (λ (l : List Run). spot (raised low p) end l k) is
-    ∙ ap (λ (t : Bool). cond t (cond (within r k) (Some (k - r.offset)) (option_map (λ n. r.count + n) (spot (suc (r.offset + r.count)) end rest k))) None) (follows_raised low end p r h e)
-    ∙ ap (λ (l : List Run). spot low end l k) (sym is)
-
-pub not_ahead : (low end p inside m : ℕ) (rs rest : List Run) (r : Run) (k : ℕ) → rs ≡ r ∷ rest → p ≤ low → begins low end r p ≡ false → m ≡ raised low p → spot_ahead end p inside m rs k ≡ spot_ahead end p inside low rs k
-not_ahead low end p inside m rs rest r k is h e q =
-    ap (λ (o : Option ℕ). cond (ltb k (p + inside)) (Some (k - p)) (option_map (λ n. inside + n) o)) (ap (λ (x : ℕ). spot x end rs k) q ∙ not_here low end p rs rest r k is h e)
 
 pub enter : (low end p m : ℕ) (rs rest : List Run) (r : Run) (k : ℕ) → rs ≡ r ∷ rest → begins low end r p ≡ true → m ≡ r.offset + r.count + 1 → p ≤ k → spot_ahead end p r.count m rest k ≡ spot_ahead end p 0 low rs k
 enter low end p m rs rest r k is e q h =
@@ -111,12 +70,6 @@ pub outside_word : (end p low : ℕ) (rs : List Run) (bits : List Bool) → p < 
 outside_word end p low rs bits h =
     let z : ltb p (p + 0) ≡ false = le-ltb p (p + 0) (omega arith) in
     rw (z, spot_low low end rs p h)
-
-pub outside_on : (end p low : ℕ) (rs : List Run) (bits : List Bool) (k : ℕ) → p < k → word_ahead end (p + 1) 0 low rs bits k ≡ word_ahead end p 0 low rs bits k
-outside_on end p low rs bits k h =
-    let z : ltb k (p + 0) ≡ false = le-ltb k (p + 0) (omega arith) in
-    let y : ltb k (p + 1 + 0) ≡ false = le-ltb k (p + 1 + 0) (omega arith) in
-    rw (z, y)
 
 -- a pixel in a run
 
@@ -157,29 +110,12 @@ one_cut : (bits : List Bool) (o : Option Cut) (n : ℕ) → cut 64 4 bits ≡ o 
 one_cut bits o n e =
     ap (λ (x : Option Cut). and_then (and_then x (λ p. skips any_word n p.1)) (λ rest. and_then (cut 64 4 rest) (λ p. guard (lawful p.0) (Some p.0)))) e
 
-pub behind_cut : (bits rest : List Bool) (w : List Symbol) → cut 64 4 bits ≡ Some (w, rest) → SameBehind bits rest
-behind_cut bits rest w e n = one_cut bits (Some (w, rest)) n e
-
 pub behind_none : (bits : List Bool) → cut 64 4 bits ≡ None → SameBehind bits bits
 behind_none bits e n = one_cut bits None n e ∙ sym (none n)
   where
     none : (n : ℕ) → word_behind n bits ≡ None
     none zero = ap (λ (x : Option Cut). and_then x (λ p. guard (lawful p.0) (Some p.0))) e
     none (suc n) = one_cut bits None n e
-
--- the first of the words
-
-first_of : (o : Option Cut) (bits : List Bool) → cut 64 4 bits ≡ o → or_empty_word (word_behind 0 bits) ≡ or_empty_word (and_then o (λ p. guard (lawful p.0) (Some p.0)))
-first_of o bits e = ap (λ (x : Option Cut). or_empty_word (and_then x (λ p. guard (lawful p.0) (Some p.0)))) e
-
-pub first_none : (bits : List Bool) → cut 64 4 bits ≡ None → or_empty_word (word_behind 0 bits) ≡ empty_word
-first_none bits e = first_of None bits e
-
-pub first_bad : (bits rest : List Bool) (w : List Symbol) → cut 64 4 bits ≡ Some (w, rest) → lawful w ≡ false → or_empty_word (word_behind 0 bits) ≡ empty_word
-first_bad bits rest w e l = first_of (Some (w, rest)) bits e ∙ ap (λ (t : Bool). or_empty_word (guard t (Some w))) l
-
-pub first_fine : (bits rest : List Bool) (w : List Symbol) → cut 64 4 bits ≡ Some (w, rest) → lawful w ≡ true → or_empty_word (word_behind 0 bits) ≡ w
-first_fine bits rest w e l = first_of (Some (w, rest)) bits e ∙ ap (λ (t : Bool). or_empty_word (guard t (Some w))) l
 
 -- what is told of the present pixel
 
@@ -192,11 +128,7 @@ same_ahead end p i l from q j m from' rs rs' all k f e =
     ap (λ (o : Option ℕ). or_empty_word (and_then o (λ n. word_behind n (drop (3 * from') all)))) e
     ∙ ap (λ (x : ℕ). or_empty_word (and_then (spot_ahead end p i l rs k) (λ n. word_behind n (drop (3 * x) all)))) f
 
-pub gone_on : (t : Told) (p q end : ℕ) → end ≡ t.width * t.height → p < end → q ≡ p → q + 1 ≡ next_pixel t p
-gone_on t p q end e h same = (let y : ltb p (t.width * t.height) ≡ true = lt-ltb p (t.width * t.height) (omega arith) in rw y (omega arith))
-
-pub stands : (t : Told) (p end : ℕ) → end ≡ t.width * t.height → end ≤ p → p ≡ next_pixel t p
-stands t p end e h = (let y : ltb p (t.width * t.height) ≡ false = le-ltb p (t.width * t.height) (omega arith) in rw y refl)
-
-pub no_word : (t : Told) (p end : ℕ) → LawfulTold t → end ≡ t.width * t.height → end ≤ p → word_at t p ≡ []
-no_word t p end l e h = get_or_past t.words p [] (omega (arith, l.whole))
+-- the words to come, with the present one told apart
+pub one_on : (ws : List (List Symbol)) (p q : ℕ) (w : List Symbol) → p < length ws → w ≡ get_or ws p [] → q ≡ p → drop p ws ≡ w ∷ drop (q + 1) ws
+one_on ws p q w h e same =
+    drop_more ws p [] h ∙ ap (λ (v : List Symbol). v ∷ drop (p + 1) ws) (sym e) ∙ ap (λ (i : ℕ). w ∷ drop (i + 1) ws) (sym same)

@@ -6,10 +6,14 @@
 --   next_drop: behind a symbol come the bits behind its three
 --   symbol_next: where there is a symbol at an index, the bits from there on begin with it
 --   unset_on, unset-bit: one turn of the loop over padding, and its end
-use Rattle.std.proofs.Common.{◌≡◌, ℕ, zero, suc, ◌+◌, ◌*◌, ◌/◌, ◌%◌, ◌<◌, ◌≤◌, Bool, true, false, ltb, List, [], ◌∷◌, length, get_or, drop, Some, None, Option, sym, refl, ap, ◌∙◌, arith, length-drop}
+use Rattle.std.specs.List.{range_with_len, AllWithin, HoldsAt}
+use Rattle.std.specs.Bool.{MatchBool}
+use Rattle.std.proofs.lemmas.List.{get_or-drop}
+use Rattle.std.proofs.lemmas.List.FromFn.{length-range_with_len, get_or-range_with_len}
+use Rattle.std.proofs.Common.{◌≡◌, ℕ, zero, suc, ◌+◌, ◌*◌, ◌/◌, ◌%◌, ◌<◌, ◌≤◌, Bool, true, false, ltb, List, [], ◌∷◌, length, get_or, drop, Some, None, Option, sym, refl, ap, ◌∙◌, arith, length-drop, ◌-◌, leb, ◌&&◌, inl, inr}
 use Rattle.std.specs.Option.{option_map}
 use Rattle.std.proofs.lemmas.List.{drop-drop, drop_more}
-use Rattle.std.proofs.lemmas.Bool.{lt-ltb, le-ltb, and_left}
+use Rattle.std.proofs.lemmas.Bool.{cases_lt, lt-leb, le-leb, lt-ltb, le-ltb, and_left}
 use Rattle.symbols.specs.declared.symbols.Symbol.{Symbol}
 use Rattle.symbols.specs.Symbols.{coded}
 use Rattle.codec.specs.Reading.{and_then}
@@ -112,8 +116,44 @@ unset_set true xs e = refl
 unset_set false xs e = absurd (e refl)
 
 -- padding is fewer than eight bits, none of them set
+unset_all : (xs : List Bool) → ((k : ℕ) → k < length xs → bit (get_or xs k false) ≡ 0) → unset xs ≡ true
+unset_all [] f = refl
+unset_all (b ∷ xs) f = unset_on b xs (f 0 (omega arith)) ∙ unset_all xs (λ k h. f (suc k) (omega arith))
+
+unset_one : (xs : List Bool) (k : ℕ) → k < length xs → (bit (get_or xs k false) ≡ 0 → ⊥) → unset xs ≡ false
+unset_one [] k h n = absurd (omega arith)
+unset_one (b ∷ xs) zero h n = unset_set b xs n
+unset_one (true ∷ xs) (suc k) h n = refl
+unset_one (false ∷ xs) (suc k) h n = unset_one xs k (omega arith) n
+
+-- places from i on, each of which is unset, or one of which is set
+pub unset_within : (bits : List Bool) (i : ℕ) (r : Bool) → let ps = range_with_len i (length bits - i) in
+    MatchBool r (AllWithin (λ p. bit (get_or bits p false) ≡ 0) ps 0 (length ps)) ((k : ℕ) × (k < length ps) × HoldsAt (λ p. bit (get_or bits p false) ≡ 0 → ⊥) ps k)
+    → r ≡ unset (drop i bits)
+unset_within bits i true f =
+    sym (unset_all (drop i bits) (λ k h.
+    let n = length-range_with_len i (length bits - i) in
+    let l : k < length bits - i = omega (arith, length-drop i bits) in
+    let e : get_or (range_with_len i (length bits - i)) k 0 ≡ i + k = get_or-range_with_len i (length bits - i) k 0 l in
+    ap (λ (b : Bool). bit b) (get_or-drop i bits k false ∙ ap (λ (p : ℕ). get_or bits p false) (sym e)) ∙ f k 0 (omega arith) (omega arith)))
+unset_within bits i false f =
+    let k = f.0 in
+    let n = length-range_with_len i (length bits - i) in
+    let l : k < length bits - i = omega (arith, f.1) in
+    let e : get_or (range_with_len i (length bits - i)) k 0 ≡ i + k = get_or-range_with_len i (length bits - i) k 0 l in
+    sym (unset_one (drop i bits) k (omega (arith, length-drop i bits)) (λ z. f.2 0 (ap (λ (p : ℕ). bit (get_or bits p false)) e ∙ sym (ap (λ (b : Bool). bit b) (get_or-drop i bits k false)) ∙ z)))
+
 pub padding_long : (xs : List Bool) → 8 ≤ length xs → padding xs ≡ false
 padding_long xs h = and_left (ltb (length xs) 8) (unset xs) (le-ltb (length xs) 8 h)
 
 pub padding_is : (xs : List Bool) → length xs < 8 → padding xs ≡ unset xs
 padding_is xs h = rw (lt-ltb (length xs) 8 h)
+
+-- the padding of bytes, which is less than a byte
+pub padded : (bs : List ℕ) (i : ℕ) → padding (drop i (bits_of bs)) ≡ (leb (length bs) ((i + 7) / 8) && unset (drop i (bits_of bs)))
+padded bs i =
+    let bits = bits_of bs in
+    elim (cases_lt ((i + 7) / 8) (length bs)) [
+      | inl h ↦ rw (lt-leb (length bs) ((i + 7) / 8) h) (padding_long (drop i bits) (omega (arith, length-drop i bits, bits_of_length bs)))
+      | inr h ↦ rw (le-leb (length bs) ((i + 7) / 8) h) (padding_is (drop i bits) (omega (arith, length-drop i bits, bits_of_length bs)))
+    ]

@@ -1,7 +1,9 @@
 pub mod Packed
 pub mod Behind
 pub mod Stretches
+pub mod Rows
 pub mod Told
 pub mod Header
 pub mod Ahead
 pub mod Source
+pub mod Left

@@ -3,6 +3,7 @@
 
 ghost use Rattle.std.specs.Prelude.{◌≡◌, ◌*◌, ◌^◌, ◌<◌, ◌≤◌, true, length, take, Some, None, MatchOption, MatchResult};
 ghost use Rattle.symbols.specs.declared.refusals.Refusal.TheVariants.{BadRecord};
+ghost use Rattle.rows.specs.Rows.{items};
 ghost use Rattle.codec.specs.Bits.{bits_of};
 ghost use Rattle.codec.specs.Records.{side, sheet_of};
 ghost use Rattle.codec.specs.Reading.{and_then};
@@ -11,33 +12,28 @@ ghost use Rattle.records.specs.Stretches.{run_list, spot};
 ghost use Rattle.records.specs.Behind.{word_behind};
 ghost use Rattle.records.specs.Told.{side_or_one, record_told, record_lawful};
 ghost use Rattle.records.specs.Header.{behind_header};
+ghost use Rattle.records.specs.Source.{source_told};
+ghost use Rattle.records.specs.Left.{words_left};
 
 use body::{has_words, read_behind};
 use order::first_words;
+use rows::Row;
 use runs::{count_pixels, spot_of};
-use stores::{Source, has_pixel};
+use stores::{Size, Source, empty_word, is_side};
 use symbols::{Refusal, Symbol, fill};
 
 mod body;
 mod order;
 mod packed;
+mod passing;
 mod runs;
 
 pub use order::Words;
 
-// The word without a crossing.
-const EMPTY: [Symbol; 4] = [
-    Symbol::Corner,
-    Symbol::Corner,
-    Symbol::Corner,
-    Symbol::Corner,
-];
-
 // The header of a record of edition 1, and the bytes behind it.
 #[derive(Clone, Copy)]
 struct Header<'a> {
-    width: u16,
-    height: u16,
+    size: Size,
     runs: usize,
     rest: &'a [u8],
 }
@@ -51,13 +47,6 @@ pub struct RecordSource<'a> {
     symbols: &'a [u8],
 }
 
-// Whether a side is 1 to 64.
-fn is_side(n: u16) -> bool
-    ensures { result ≡ side n }
-{
-    1 <= n && n <= 64
-}
-
 // A side; one where it is no side.
 fn side_of(n: u16) -> u16
     ensures is { result ≡ side_or_one n }
@@ -69,18 +58,20 @@ fn side_of(n: u16) -> u16
 // Takes the header apart; none where the edition or a side is wrong, or a byte is wanting.
 fn split_header(bytes: &[u8]) -> Option<Header<'_>>
     ensures { MatchOption result (sheet_of bytes.now ≡ None)
-        (λ h. (sheet_of bytes.now ≡ behind_header h.width h.height h.runs h.rest.now) × (side h.width ≡ true) × (side h.height ≡ true) × (h.runs < 2 ^ 16)) }
+        (λ h. (sheet_of bytes.now ≡ behind_header h.size.width h.size.height h.runs h.rest.now) × (side h.size.width ≡ true) × (side h.size.height ≡ true) × (h.runs < 2 ^ 16)) }
 {
     let [1, width, height, hi, lo, rest @ ..] = bytes else {
         return None;
     };
-    let (width, height) = (u16::from(*width), u16::from(*height));
-    if !is_side(width) || !is_side(height) {
+    let size = Size {
+        width: u16::from(*width),
+        height: u16::from(*height),
+    };
+    if !size.is_sheet() {
         return None;
     }
     Some(Header {
-        width,
-        height,
+        size,
         runs: usize::from(*hi) * 256 + usize::from(*lo),
         rest,
     })
@@ -90,22 +81,16 @@ fn split_header(bytes: &[u8]) -> Option<Header<'_>>
 fn split_record(bytes: &[u8]) -> Option<RecordSource<'_>>
     ensures { MatchOption result (sheet_of bytes.now ≡ None) (λ s. sheet_of bytes.now ≡ Some (sheet_told (record_told s.width s.height s.runs.now s.symbols.now))) }
 {
-    let Some(header) = split_header(bytes) else {
-        return None;
-    };
-    if header.rest.len() < 4 * header.runs {
-        return None;
-    }
-    let (runs, symbols) = header.rest.split_at(4 * header.runs);
-    let Some(words) = count_pixels(runs, header.width * header.height) else {
-        return None;
-    };
+    let header = split_header(bytes)?;
+    let Size { width, height } = header.size;
+    let (runs, symbols) = header.rest.split_at_checked(4 * header.runs)?;
+    let words = count_pixels(runs, width * height)?;
     if !has_words(symbols, words) {
         return None;
     }
     Some(RecordSource {
-        width: header.width,
-        height: header.height,
+        width,
+        height,
         runs,
         symbols,
     })
@@ -118,36 +103,25 @@ impl<'a> RecordSource<'a> {
             (λ s. sheet_of bytes.now ≡ Some (sheet_told (record_told s.width s.height s.runs.now s.symbols.now)))
             (λ e. (e ≡ BadRecord) × (sheet_of bytes.now ≡ None)) }
     {
-        match split_record(bytes) {
-            Some(source) => Ok(source),
-            None => Err(Refusal::BadRecord),
-        }
+        split_record(bytes).ok_or(Refusal::BadRecord)
     }
 
     // The words in the order of their pixels, from the first one on.
     pub fn words(&self) -> Words<'a>
-        ensures source { result.source ≡ self.now }
-        ensures pixel { result.place.pixel ≡ 0 }
+        ensures { words_left result ≡ (source_told self.now).words }
     {
         first_words(*self)
     }
 }
 
-// Fetches the word of a pixel that lies in a run to the front of memory and tells its length.
-fn fetch(
-    runs: &[u8],
-    symbols: &[u8],
-    end: u16,
-    pixel: u32,
-    held: &mut [Symbol; 64],
-) -> Option<usize>
+// The word of a pixel that lies in a run.
+fn fetch(runs: &[u8], symbols: &[u8], end: u16, pixel: u32) -> Option<Row<Symbol, 64>>
     ensures { MatchOption result
         (and_then (spot 0 end (run_list runs.now) pixel) (λ n. word_behind n (bits_of symbols.now)) ≡ None)
-        (λ n. (n ≤ 64) × (and_then (spot 0 end (run_list runs.now) pixel) (λ k. word_behind k (bits_of symbols.now)) ≡ Some (take n held.new))) }
+        (λ w. and_then (spot 0 end (run_list runs.now) pixel) (λ n. word_behind n (bits_of symbols.now)) ≡ Some (items w)) }
 {
     let before = spot_of(runs, end, pixel)?;
-    let n = read_behind(symbols, before, held)?;
-    Some(n)
+    read_behind(symbols, before)
 }
 
 impl Source for RecordSource<'_> {
@@ -164,16 +138,13 @@ impl Source for RecordSource<'_> {
     }
 
     fn word(&self, pixel: u32, out: &mut [Symbol]) -> Result<usize, Refusal> {
-        let width = side_of(self.width);
-        let height = side_of(self.height);
-        if !has_pixel(width, height, pixel) {
+        let size = self.size();
+        if !size.has(pixel) {
             return Err(Refusal::NoPixel);
         }
-        let end = width * height;
-        let mut held = [Symbol::Corner; 64];
-        match fetch(self.runs, self.symbols, end, pixel, &mut held) {
-            Some(n) => fill(&held[0..n], out),
-            None => fill(&EMPTY, out),
+        match fetch(self.runs, self.symbols, size.width * size.height, pixel) {
+            Some(word) => fill(word.as_slice(), out),
+            None => fill(empty_word(), out),
         }
     }
 }

@@ -1,6 +1,6 @@
 // Symbols packed three bits each, high bit first. Nothing else knows how they are packed.
 ghost use Rattle.std.specs.Prelude.{◌≡◌, ℕ, ◌+◌, ◌*◌, ◌^◌, ◌<◌, ◌≤◌, false, length, drop, slice_index_or};
-ghost use Rattle.codec.specs.Bits.{bit, bits_of, padding};
+ghost use Rattle.codec.specs.Bits.{bit, bits_of, unset, padding};
 ghost use Rattle.records.specs.Packed.{symbol_at};
 
 use symbols::Symbol;
@@ -35,21 +35,22 @@ pub fn symbol_at(bytes: &[u8], index: usize) -> Option<Symbol>
     if (within + 2) / 8 >= part.len() {
         return None;
     }
-    Symbol::from_code(code_at(part, within))
+    Symbol::try_from(code_at(part, within)).ok()
+}
+
+// Whether only zero bits stand from a place on.
+fn is_unset(bytes: &[u8], from: usize) -> bool
+    requires { 8 * length bytes.now < 2 ^ 64 }
+    ensures { result ≡ unset (drop from (bits_of bytes.now)) }
+{
+    (from..8 * bytes.len()).all(|place| bit_at(bytes, place) == 0)
 }
 
 // Whether only zero bits, fewer than eight, stand behind the symbols before an index.
+#[tactic(auto, using(crate::proofs::Triples::padded))]
 pub fn is_padded(bytes: &[u8], index: u32) -> bool
     ensures { result ≡ padding (drop (3 * index) (bits_of bytes.now)) }
 {
     let from = 3 * index as usize;
-    if bytes.len() > (from + 7) / 8 {
-        return false;
-    }
-    for place in from..8 * bytes.len() {
-        if bit_at(bytes, place) != 0 {
-            return false;
-        }
-    }
-    true
+    bytes.len() <= (from + 7) / 8 && is_unset(bytes, from)
 }

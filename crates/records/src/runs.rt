@@ -1,7 +1,9 @@
 // The runs of a record, four bytes each.
 ghost use Rattle.std.specs.Prelude.{◌≡◌, ℕ, ◌+◌, ◌*◌, ◌<◌, true, false, ◌&&◌, [], ◌∷◌, length, MatchOption};
 ghost use Rattle.codec.specs.Runs.{run as stretch, sound, within};
+ghost use Rattle.std.specs.Iterator.{YieldsFirstBy, item_count};
 ghost use Rattle.records.specs.Stretches.{run_list, run_pixels, follows as behind, spot};
+ghost use Rattle.records.specs.Rows.{run_of, runs_left};
 
 // A run: its first pixel and how many pixels it has.
 #[derive(Clone, Copy)]
@@ -10,11 +12,10 @@ pub struct Run {
     pub count: u16,
 }
 
-// A run at the front of bytes, and the bytes behind it.
+// The runs of bytes, in order. Fewer than four bytes at the end are no run.
 #[derive(Clone, Copy)]
-pub struct Front<'a> {
-    pub run: Run,
-    pub rest: &'a [u8],
+pub struct Runs<'a> {
+    left: &'a [u8],
 }
 
 // A number in two bytes, the high one first.
@@ -24,19 +25,32 @@ fn two_bytes(hi: u8, lo: u8) -> u16
     u16::from_be_bytes([hi, lo])
 }
 
-// Takes the run at the front of bytes apart from those behind it; none where there are fewer than four bytes.
-pub fn take_run(bytes: &[u8]) -> Option<Front<'_>>
-    ensures { MatchOption result (run_list bytes.now ≡ [])
-        (λ f. (run_list bytes.now ≡ (stretch f.run.offset f.run.count ∷ run_list f.rest.now)) × (length f.rest.now < length bytes.now)) }
-{
-    let [a, b, c, d, rest @ ..] = bytes else {
-        return None;
-    };
-    let run = Run {
-        offset: two_bytes(*a, *b),
-        count: two_bytes(*c, *d),
-    };
-    Some(Front { run, rest })
+impl<'a> Runs<'a> {
+    // The runs of bytes from the first on.
+    pub fn of(bytes: &'a [u8]) -> Runs<'a>
+        ensures { result.left.now ≡ bytes.now }
+    {
+        Runs { left: bytes }
+    }
+}
+
+impl Iterator for Runs<'_> {
+    type Item = Run;
+
+    ghost next_gives = { YieldsFirstBy run_of runs_left };
+
+    ghost remaining = { item_count runs_left };
+
+    fn next(&mut self) -> Option<Run> {
+        let [a, b, c, d, rest @ ..] = self.left else {
+            return None;
+        };
+        self.left = rest;
+        Some(Run {
+            offset: two_bytes(*a, *b),
+            count: two_bytes(*c, *d),
+        })
+    }
 }
 
 // Where the pixels behind a run begin.
@@ -53,7 +67,8 @@ pub fn past(run: Run) -> u32
     end_of(run) + 1
 }
 
-// Whether a run has a pixel, begins at low or later, and ends by end.
+// Whether a run has a pixel, begins at low or later, and ends by end. Only low goes on from run to run, so the two are no
+// struct: each place would take it apart again.
 pub fn follows(run: Run, low: u32, end: u16) -> bool
     ensures { result ≡ behind low end (stretch run.offset run.count) }
 {
@@ -71,17 +86,14 @@ fn holds(run: Run, pixel: u32) -> bool
 pub fn count_pixels(bytes: &[u8], end: u16) -> Option<u16>
     ensures { MatchOption result (sound 0 end (run_list bytes.now) ≡ false) (λ n. (sound 0 end (run_list bytes.now) ≡ true) × (n ≡ run_pixels (run_list bytes.now))) }
 {
-    let mut left = bytes;
     let mut low: u32 = 0;
     let mut pixels: u16 = 0;
-    while let Some(front) = take_run(left) {
-        let run = front.run;
+    for run in Runs::of(bytes) {
         if !follows(run, low, end) {
             return None;
         }
         low = past(run);
         pixels += run.count;
-        left = front.rest;
     }
     Some(pixels)
 }
@@ -91,11 +103,9 @@ pub fn count_pixels(bytes: &[u8], end: u16) -> Option<u16>
 pub fn spot_of(bytes: &[u8], end: u16, pixel: u32) -> Option<u16>
     ensures { result ≡ spot 0 end (run_list bytes.now) pixel }
 {
-    let mut left = bytes;
     let mut low: u32 = 0;
     let mut before: u16 = 0;
-    while let Some(front) = take_run(left) {
-        let run = front.run;
+    for run in Runs::of(bytes) {
         if !follows(run, low, end) {
             return None;
         }
@@ -104,7 +114,6 @@ pub fn spot_of(bytes: &[u8], end: u16, pixel: u32) -> Option<u16>
         }
         low = past(run);
         before += run.count;
-        left = front.rest;
     }
     None
 }

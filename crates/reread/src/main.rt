@@ -3,7 +3,7 @@
 // all pixels, the record written from them, and what is told of its darts.
 #![tactic(auto)]
 
-use darts::tell_darts;
+use asked::tell_darts;
 use printed::tell_streets;
 use recorder::{record_len, write_record};
 use records::RecordSource;
@@ -12,7 +12,7 @@ use std::io::{BufRead, BufReader};
 use stores::Source;
 use symbols::Symbol;
 
-mod darts;
+mod asked;
 
 // The value of a hexadecimal digit; 0 of any other byte.
 fn digit(b: u8) -> u8 {
@@ -35,25 +35,17 @@ fn bytes_of(heap: Global, line: &str) -> Result<Vec<u8>, AllocError> {
 }
 
 // A pixel's word, or the number of its refusal.
-fn tell_word<S: Source>(
-    heap: Global,
-    out: &mut String,
-    source: &S,
-    pixel: u32,
-) -> Result<(), AllocError> {
+fn tell_word<S: Source>(out: &mut String, source: &S, pixel: u32) -> Result<(), AllocError> {
     let mut room = [Symbol::DeadEnd; 64];
     out.push(' ')?;
     match source.word(pixel, &mut room) {
         Ok(n) => {
             for s in room.iter().take(n) {
-                out.push(s.to_char())?;
+                write!(out, "{s}")?;
             }
             Ok(())
         }
-        Err(refusal) => {
-            let n = refusal.number();
-            out.push_str(format!(in heap; "{n}")?.as_str())
-        }
+        Err(refusal) => write!(out, "{}", refusal.number()),
     }
 }
 
@@ -65,12 +57,12 @@ fn tell_record<S: Source>(heap: Global, out: &mut String, source: &S) -> Result<
         Ok(_) => 0,
         Err(refusal) => refusal.number(),
     };
-    out.push_str(format!(in heap; " {short} ")?.as_str())?;
+    write!(out, " {short} ")?;
     if write_record(source, &mut memory).is_err() {
         return out.push_str("no record");
     }
     for b in memory.iter() {
-        out.push_str(format!(in heap; "{b:02x}")?.as_str())?;
+        write!(out, "{b:02x}")?;
     }
     Ok(())
 }
@@ -95,13 +87,13 @@ fn tell_case(heap: Global, line: &str) -> Result<String, AllocError> {
         return Ok(out);
     };
     let (width, height) = (source.width(), source.height());
-    out.push_str(format!(in heap; " {width} {height}")?.as_str())?;
+    write!(out, " {width} {height}")?;
     let last = width as u32 * height as u32;
     for pixel in 0..=last {
-        tell_word(heap, &mut out, &source, pixel)?;
+        tell_word(&mut out, &source, pixel)?;
     }
     tell_record(heap, &mut out, &source)?;
-    tell_darts(heap, &mut out, &source)?;
+    tell_darts(&mut out, &source)?;
     Ok(out)
 }
 

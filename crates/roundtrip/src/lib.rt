@@ -19,7 +19,7 @@ fn open_front(memory: &[u8], n: usize) -> Result<RecordSource<'_>, Refusal>
         (λ s. sheet_of (take n memory.now) ≡ Some (sheet_told (record_told s.width s.height s.runs.now s.symbols.now)))
         (λ e. (e ≡ BadRecord) × (sheet_of (take n memory.now) ≡ None)) }
 {
-    RecordSource::open(&memory[0..n])
+    RecordSource::open(&memory[..n])
 }
 
 // Writes the record of a source into memory, and opens a source over it. It tells the same size and the same words.
@@ -28,8 +28,8 @@ pub fn record_and_open<'m, S: Source>(
     memory: &'m mut [u8],
 ) -> Result<RecordSource<'m>, Refusal>
     ensures { MatchResult result
-        (λ s. record_told s.width s.height s.runs.now s.symbols.now ≡ S.Source.told source.now)
-        (λ e. (e ≡ Short) × (length memory.old < length (bytes_of (sheet_told (S.Source.told source.now))))) }
+        (λ s. record_told s.width s.height s.runs.now s.symbols.now ≡ S.told source.now)
+        (λ e. (e ≡ Short) × (length memory.old < length (bytes_of (sheet_told (S.told source.now))))) }
 {
     let n = write_record(source, memory)?;
     open_front(memory, n)

@@ -1,20 +1,20 @@
 -- Before and after a crossing in its group undo each other.
 --   NoneIn: a function is nowhere a number, from a bound up to another
+--   latest_is, latest_none, soonest_is, soonest_none: the latest and the soonest of a group, by where it is and is not
 --   Last, Next: the last such place before a bound, the next one from a start on, or none
 --   Back, Forth: one step in the circle of a group, and that the other step undoes it
 --   crossings_turn: the steps undo each other and stay in the group
---   latest_here, latest_on, soonest_here, soonest_on, soonest_end: one turn of a loop that looks for such a place
-use Rattle.std.proofs.Common.{◌≡◌, ℕ, zero, suc, ◌+◌, ◌-◌, ◌<◌, ◌≤◌, ◌≢◌, ◌⊎◌, List, length, sym, refl, ap, ◌∙◌, subst, inl, inr, add-one, arith}
+use Rattle.std.proofs.Common.{◌≡◌, ℕ, zero, suc, ◌+◌, ◌-◌, ◌<◌, ◌≤◌, ◌⊎◌, List, length, sym, refl, ap, ◌∙◌, subst, inl, inr, arith}
 use Rattle.std.proofs.lemmas.Bool.{ne_eqb, eq-eqb, cases_eq}
 use Rattle.symbols.specs.declared.symbols.Crossing.{Crossing}
 use Rattle.rules.specs.Crossings.{group_at, latest, soonest, before, after}
 use Rattle.rules.specs.Statements.{Turns}
 
 -- f is g nowhere from a up to b
-abbrev NoneIn : (ℕ → ℕ) → ℕ → ℕ → ℕ → Type 0
+abbrev pub NoneIn : (ℕ → ℕ) → ℕ → ℕ → ℕ → Type 0
 NoneIn f g a b = (m : ℕ) → a ≤ m → m < b → f m ≡ g → ⊥
 
-latest_is : (f : ℕ → ℕ) (g z n j : ℕ) → j < n → f j ≡ g → NoneIn f g (suc j) n → latest f g z n ≡ j
+pub latest_is : (f : ℕ → ℕ) (g z n j : ℕ) → j < n → f j ≡ g → NoneIn f g (suc j) n → latest f g z n ≡ j
 latest_is f g z zero j h e no' = absurd (omega arith)
 latest_is f g z (suc n) j h e no' =
     elim (cases_eq j n) [
@@ -22,11 +22,11 @@ latest_is f g z (suc n) j h e no' =
       | inr p ↦ rw (ne_eqb (f n) g (no' n (omega arith) (omega arith))) (latest_is f g z n j (omega arith) e (λ m a b. no' m a (omega arith)))
     ]
 
-latest_none : (f : ℕ → ℕ) (g z n : ℕ) → NoneIn f g 0 n → latest f g z n ≡ z
+pub latest_none : (f : ℕ → ℕ) (g z n : ℕ) → NoneIn f g 0 n → latest f g z n ≡ z
 latest_none f g z zero no' = refl
 latest_none f g z (suc n) no' = rw (ne_eqb (f n) g (no' n (omega arith) (omega arith))) (latest_none f g z n (λ m a b. no' m a (omega arith)))
 
-soonest_is : (f : ℕ → ℕ) (g z n s j : ℕ) → s ≤ j → j < s + n → f j ≡ g → NoneIn f g s j → soonest f g z n s ≡ j
+pub soonest_is : (f : ℕ → ℕ) (g z n s j : ℕ) → s ≤ j → j < s + n → f j ≡ g → NoneIn f g s j → soonest f g z n s ≡ j
 soonest_is f g z zero s j a h e no' = absurd (omega arith)
 soonest_is f g z (suc n) s j a h e no' =
     elim (cases_eq j s) [
@@ -34,7 +34,7 @@ soonest_is f g z (suc n) s j a h e no' =
       | inr p ↦ rw (ne_eqb (f s) g (no' s (omega arith) (omega arith))) (soonest_is f g z n (suc s) j (omega arith) (omega arith) e (λ m b c. no' m (omega arith) c))
     ]
 
-soonest_none : (f : ℕ → ℕ) (g z n s : ℕ) → NoneIn f g s (s + n) → soonest f g z n s ≡ z
+pub soonest_none : (f : ℕ → ℕ) (g z n s : ℕ) → NoneIn f g s (s + n) → soonest f g z n s ≡ z
 soonest_none f g z zero s no' = refl
 soonest_none f g z (suc n) s no' = rw (ne_eqb (f s) g (no' s (omega arith) (omega arith))) (soonest_none f g z n (suc s) (λ m a b. no' m (omega arith) (omega arith)))
 
@@ -141,32 +141,3 @@ crossings_turn d i h =
       before_group = ap (group_at d) b.1 ∙ b.3;
       after_group = ap (group_at d) a.1 ∙ a.3;
     }
-
--- the loops
-
-pub latest_here : (f : ℕ → ℕ) (g z j : ℕ) → 0 < j → f (j - 1) ≡ g → latest f g z j ≡ j - 1
-latest_here f g z zero h e = absurd (omega arith)
-latest_here f g z (suc j) h e =
-    let p : suc j - 1 ≡ j = omega arith in
-    rw (p, eq-eqb (f j) g (ap f (sym p) ∙ e))
-
-pub latest_on : (f : ℕ → ℕ) (g z j : ℕ) → 0 < j → f (j - 1) ≢ g → latest f g z j ≡ latest f g z (j - 1)
-latest_on f g z zero h e = absurd (omega arith)
-latest_on f g z (suc j) h e =
-    let p : suc j - 1 ≡ j = omega arith in
-    rw (p, ne_eqb (f j) g (λ q. e (ap f p ∙ q)))
-
-pub soonest_here : (f : ℕ → ℕ) (g z n j : ℕ) → j < n → f j ≡ g → soonest f g z (n - j) j ≡ j
-soonest_here f g z n j h e =
-    let m : n - j ≡ suc (n - suc j) = omega arith in
-    rw (m, eq-eqb (f j) g e)
-
-pub soonest_on : (f : ℕ → ℕ) (g z n j : ℕ) → j < n → f j ≢ g → soonest f g z (n - j) j ≡ soonest f g z (n - (j + 1)) (j + 1)
-soonest_on f g z n j h e =
-    let m : n - j ≡ suc (n - suc j) = omega arith in
-    rw (m, ne_eqb (f j) g e, add-one j)
-
-pub soonest_end : (f : ℕ → ℕ) (g z n j : ℕ) → n ≤ j → soonest f g z (n - j) j ≡ z
-soonest_end f g z n j h =
-    let m : n - j ≡ 0 = omega arith in
-    rw m

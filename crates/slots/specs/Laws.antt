@@ -5,9 +5,9 @@ use Rattle.std.specs.Prelude.{◌≡◌, ℕ, ◌*◌, ◌<◌, List, [], length
 use Rattle.std.proofs.Common.{sym, subst, arith}
 use Rattle.std.proofs.ByRecursion.{All-from_get_or}
 use Rattle.rules.specs.Words.{Lawful}
-use Rattle.stores.specs.Sources.{LawfulTold}
+use Rattle.stores.specs.Sources.{LawfulTold, Sides}
 use Rattle.stores.specs.Numbered.{word_numbered, words_numbered}
-use Rattle.slots.specs.Slots.{slot_word, slot_words, slots_told, Sides, Slots}
+use Rattle.slots.specs.Slots.{slot_word, slot_words, slots_told, Slots}
 
 pub word_there : (n k : ℕ) (bs : List ℕ) (i : ℕ) → i < k → slice_index_or (slot_words n k bs) i [] ≡ slot_word n bs i
 word_there n k bs i h = word_numbered (slot_word n bs) k i h

@@ -3,7 +3,6 @@
 --   Put, put_slot: what the slots tell after one was written
 --   slot_lent, stored: slots seen through the loans of the memory
 --   blanked, put_lawful: the memory after an opening, lawful words after a write
---   over_slot: a word that does not fit is longer than its slot
 --   slots_keep, never_full: the words of slots keep to the slot and to all slots together
 --   never_refused: so no write is refused for want of room in all slots
 --   blank_lawful, blank_words: slots of zeros hold the empty word everywhere
@@ -14,7 +13,7 @@ use Rattle.std.specs.List.{AllByRecursion}
 use Rattle.std.proofs.ByRecursion.{All-from_get_or, All-set, sum_by_le}
 use Rattle.std.proofs.lemmas.List.{take_at, length-take, get_or-set_same, get_or-set_other, get_or-replicate, ext_get_or, length-set, take-replicate, drop-replicate, take-append-le, drop-append-le, length-take-le, length-drop, length-map, length-replicate}
 use Rattle.std.proofs.lemmas.Slice.{between_is, take-put_mid_below, drop-put_mid, between-put_mid}
-use Rattle.std.proofs.lemmas.Bool.{cases_eq, cases_lt, cases_order, cond-false, le-ltb, false≢true}
+use Rattle.std.proofs.lemmas.Bool.{cases_eq, cases_lt, cases_order, cond-false, le-ltb}
 use Rattle.symbols.specs.declared.symbols.Symbol.{Symbol}
 use Rattle.symbols.specs.Symbols.{code}
 use Rattle.symbols.specs.declared.refusals.Refusal.TheVariants.{NoWord, Unlawful, OverTotal}
@@ -22,11 +21,11 @@ use Rattle.symbols.specs.Refusals.{filled}
 use Rattle.rules.specs.Words.{Drawing, lawful, Lawful, shaped, drawing_of, drawn, judged}
 use Rattle.plain.specs.Plain.{Answer, Keeps, symbols_in, symbols_of, answer, write}
 use Rattle.plain.specs.Statements.{told}
-use Rattle.stores.specs.Sources.{Told, empty_word, plain_told}
+use Rattle.stores.specs.Sources.{Told, Sides, empty_word, plain_told}
 use Rattle.stores.specs.Bytes.{decode, decoded, front_word, encoded}
 use Rattle.stores.proofs.Fronts.{up_to_short, front_encoded}
 use Rattle.stores.proofs.Writes.{counted, write_no_pixel, write_bad, write_long, write_fine, drawn_short, keeps_told}
-use Rattle.slots.specs.Slots.{slot_word, slot_words, slots_told, Sides, Slots, NeverFull}
+use Rattle.slots.specs.Slots.{slot_word, slot_words, slots_told, Slots, NeverFull}
 use Rattle.slots.specs.Laws.{word_there, length_words, slots_lawful}
 
 suc_mul : (x y : ℕ) → suc x * y ≡ x * y + y
@@ -232,6 +231,3 @@ put_lawful n k p w old new t law all i l =
       | inl e ↦ ap (λ (x : ℕ). lawful (slot_word n new x)) e ∙ ap lawful t.here ∙ law
       | inr d ↦ ap lawful (t.others i d) ∙ all i l
     ]
-
-pub over_slot : (n m : ℕ) → (n ≤ m → false ≡ true) → m < n
-over_slot n m f = elim (cases_lt m n) [ inl l ↦ l | inr h ↦ absurd (false≢true (f h)) ]

@@ -2,7 +2,6 @@
 --   slot_word: the word in a slot
 --   slot_words: the words in the first so many slots
 --   slots_told: what they tell, with a size
---   Sides: the sides of a sheet are 1 to 64
 --   Slots: slots of 4 to 64 bytes, room for one for each pixel, and a lawful word in each
 --   OpensSlots: an opening that is accepted
 --   NeverFull: no write to slots is refused because all words together are too long
@@ -10,10 +9,9 @@ use Rattle.std.specs.Prelude.{◌≡◌, ℕ, ◌*◌, ◌<◌, ◌≤◌, true,
 use Rattle.symbols.specs.declared.refusals.Refusal.TheVariants.{OverTotal}
 use Rattle.symbols.specs.declared.symbols.Symbol.{Symbol}
 use Rattle.rules.specs.Words.{lawful}
-use Rattle.model.specs.Sheets.{most_side}
 use Rattle.model.specs.Darts.{up_to}
 use Rattle.plain.specs.Plain.{answer, write}
-use Rattle.stores.specs.Sources.{Told, plain_told}
+use Rattle.stores.specs.Sources.{Told, Sides, plain_told}
 use Rattle.stores.specs.Bytes.{front_word}
 
 abbrev pub slot_word : ℕ → List ℕ → ℕ → List Symbol
@@ -24,9 +22,6 @@ slot_words n k bs = map (slot_word n bs) (up_to k)
 
 abbrev pub slots_told : ℕ → ℕ → ℕ → List ℕ → Told
 slots_told w h n bs = record { width = w; height = h; words = slot_words n (w * h) bs }
-
-abbrev pub Sides : ℕ → ℕ → Type 0
-Sides w h = (1 ≤ w) × (w ≤ most_side) × (1 ≤ h) × (h ≤ most_side)
 
 abbrev pub Slots : ℕ → ℕ → ℕ → List ℕ → Type 0
 Slots w h n bs = (4 ≤ n) × (n ≤ 64) × (w * h * n ≤ length bs) × ((i : ℕ) → i < w * h → lawful (slot_word n bs i) ≡ true)

@@ -1,14 +1,14 @@
 // The slot store: each pixel has a slot of bytes for its word.
 #![tactic(auto)]
 
-ghost use Rattle.std.specs.Prelude.{◌≡◌, ◌*◌, ◌<◌, ◌≤◌, vec_len, Decides, MatchResult};
+ghost use Rattle.std.specs.Prelude.{◌≡◌, ◌*◌, ◌<◌, ◌≤◌, vec_len, Decides, MatchBool, MatchResult};
 ghost use Rattle.symbols.specs.declared.refusals.Refusal.TheVariants.{Opening};
-ghost use Rattle.stores.specs.Sources.{fresh};
-ghost use Rattle.slots.specs.Slots.{slots_told, Sides, Slots, OpensSlots, NeverFull};
+ghost use Rattle.stores.specs.Sources.{Sides, fresh};
+ghost use Rattle.slots.specs.Slots.{slots_told, Slots, OpensSlots, NeverFull};
 ghost use Rattle.slots.specs.Laws.{slots_lawful};
 ghost use Rattle.slots.specs.Places.{slots_keep};
 
-use stores::{Source, Store, Unopened, blank_out, copy_word, has_pixel, pixels_in, put_word};
+use stores::{Size, Source, Store, Unopened, blank_out, copy_word, put_word};
 use symbols::{Refusal, Symbol};
 use words::Word;
 
@@ -16,31 +16,17 @@ use words::Word;
 #[derive(Drop)]
 pub struct SlotStore {
     memory: Vec<u8>,
-    width: u16,
-    height: u16,
+    size: Size,
     slot: usize,
-    ghost sides: { Sides width height },
-    ghost sound: { Slots width height slot memory.items },
+    ghost sides: { Sides size.width size.height },
+    ghost sound: { Slots size.width size.height slot memory.items },
 }
 
-// Whether a word is no longer than a slot.
-fn fits_slot(slot: usize, n: usize) -> bool
-    ensures { Decides result (n ≤ slot) }
+// Whether size, slot and memory suit a store.
+fn suits(room: usize, size: Size, slot: usize) -> bool
+    ensures { Decides result (OpensSlots room size.width size.height slot) }
 {
-    n <= slot
-}
-
-// Whether sides, slot and memory suit a store.
-fn suits(room: usize, width: u16, height: u16, slot: usize) -> bool
-    ensures { Decides result (OpensSlots room width height slot) }
-{
-    1 <= width
-        && width <= 64
-        && 1 <= height
-        && height <= 64
-        && 4 <= slot
-        && slot <= 64
-        && pixels_in(width, height) * slot <= room
+    size.is_sheet() && (4..=64).contains(&slot) && size.pixels() * slot <= room
 }
 
 impl SlotStore {
@@ -53,24 +39,26 @@ impl SlotStore {
         slot: usize,
     ) -> Result<SlotStore, Unopened>
         ensures { MatchResult result
-            (λ s. OpensSlots (vec_len memory) width height slot × (s.slot ≡ slot) × (slots_told s.width s.height s.slot s.memory.items ≡ fresh width height) × (vec_len s.memory ≡ vec_len memory))
+            (λ s. OpensSlots (vec_len memory) width height slot × (s.slot ≡ slot) × (slots_told s.size.width s.size.height s.slot s.memory.items ≡ fresh width height) × (vec_len s.memory ≡ vec_len memory))
             (λ e. (OpensSlots (vec_len memory) width height slot → ⊥) × (e.refusal ≡ Opening) × (e.memory ≡ memory)) }
     {
-        if !suits(memory.len(), width, height, slot) {
+        let size = Size { width, height };
+        if !suits(memory.len(), size, slot) {
             return Err(Unopened {
                 refusal: Refusal::Opening,
                 memory,
             });
         }
         let mut memory = memory;
-        let n = pixels_in(width, height) * slot;
-        blank_out(&mut memory, n);
-        Ok(SlotStore {
-            memory,
-            width,
-            height,
-            slot,
-        })
+        blank_out(&mut memory, size.pixels() * slot);
+        Ok(SlotStore { memory, size, slot })
+    }
+
+    // Whether a word is no longer than a slot.
+    fn fits(&self, len: usize) -> bool
+        ensures { MatchBool result (len ≤ self.now.slot) (self.now.slot < len) }
+    {
+        len <= self.slot
     }
 
     // Takes the store apart and gives its memory back.
@@ -79,8 +67,7 @@ impl SlotStore {
     {
         let SlotStore {
             memory,
-            width: _,
-            height: _,
+            size: _,
             slot: _,
         } = self;
         memory
@@ -88,20 +75,20 @@ impl SlotStore {
 }
 
 impl Source for SlotStore {
-    ghost told = { λ s. slots_told s.width s.height s.slot s.memory.items };
+    ghost told = { λ s. slots_told s.size.width s.size.height s.slot s.memory.items };
 
-    ghost lawful = { λ s. slots_lawful s.width s.height s.slot s.memory.items s.sides s.sound };
+    ghost lawful = { λ s. slots_lawful s.size.width s.size.height s.slot s.memory.items s.sides s.sound };
 
     fn width(&self) -> u16 {
-        self.width
+        self.size.width
     }
 
     fn height(&self) -> u16 {
-        self.height
+        self.size.height
     }
 
     fn word(&self, pixel: u32, out: &mut [Symbol]) -> Result<usize, Refusal> {
-        if !has_pixel(self.width, self.height, pixel) {
+        if !self.size.has(pixel) {
             return Err(Refusal::NoPixel);
         }
         let at = pixel as usize * self.slot;
@@ -112,26 +99,24 @@ impl Source for SlotStore {
 impl Store for SlotStore {
     ghost longest = { λ s. s.slot };
 
-    ghost total = { λ s. s.width * s.height * s.slot };
+    ghost total = { λ s. s.size.width * s.size.height * s.slot };
 
-    ghost keeps = { λ s. slots_keep s.width s.height s.slot s.memory.items s.sides s.sound };
+    ghost keeps = { λ s. slots_keep s.size.width s.size.height s.slot s.memory.items s.sides s.sound };
 
     fn longest_word(&self) -> usize {
         self.slot
     }
 
     fn room(&self) -> usize {
-        pixels_in(self.width, self.height) * self.slot
+        self.size.pixels() * self.slot
     }
 
     fn write(&mut self, pixel: u32, word: &[Symbol]) -> Result<(), Refusal> {
-        if !has_pixel(self.width, self.height, pixel) {
+        if !self.size.has(pixel) {
             return Err(Refusal::NoPixel);
         }
-        if let Err(refusal) = Word::from_symbols(word) {
-            return Err(refusal);
-        }
-        if !fits_slot(self.slot, word.len()) {
+        Word::from_symbols(word)?;
+        if !self.fits(word.len()) {
             return Err(Refusal::OverLongest);
         }
         let at = pixel as usize * self.slot;

@@ -1,16 +1,18 @@
 -- The word at the front of bytes, a byte at a time.
 --   decode_other: only the byte 0 is a corner
 --   up_to_short, up_to_take: what is up to a corner is a front
---   Counting, count_on, count_corner, count_last, count_all: one turn of the loop that counts corners, and its ends
+--   Counted, count_more, count_all: one turn of the loop that counts corners, and its end
 --   put_more: one turn of a loop that writes to the front of memory
 --   decode_code, decoded_encoded: the symbol of a code, and the symbols of the bytes of a word
 --   Fills, fills_short, fills_well: memory that an answer fills, or is too long for
 --   blank_front: memory whose front was made zeros
 --   front_encoded: the word at the front of a lawful word's bytes is that word, whatever follows
-use Rattle.std.proofs.Common.{◌≡◌, ℕ, zero, suc, ◌+◌, ◌-◌, ◌<◌, ◌≤◌, false, ◌≢◌, List, [], ◌∷◌, ◌++◌, length, get_or, take, drop, set, replicate, Ok, Err, Result, sym, refl, ap, ◌∙◌, subst, arith}
+use Rattle.std.proofs.Common.{inl, inr, ◌≡◌, ℕ, zero, suc, ◌+◌, ◌-◌, ◌<◌, ◌≤◌, Bool, true, false, ◌≢◌, List, [], ◌∷◌, ◌++◌, length, get_or, take, drop, set, replicate, Ok, Err, Result, sym, refl, ap, ◌∙◌, subst, arith}
 use lib.ListN.{length-replicate}
 use Rattle.std.proofs.lemmas.List.{at_drop_more, at_drop_all, append_assoc, map-append, drop_more, set_at, length-take-le, take_more}
-use Rattle.std.proofs.lemmas.Bool.{ne_eqb, lt-ltb, le-ltb}
+use Rattle.std.proofs.lemmas.Bool.{cases_eq, ne_eqb, lt-ltb, le-ltb}
+use mir.Val.{bool_byte}
+use lib.Dec.{eqb}
 use Rattle.symbols.specs.declared.refusals.Refusal.{Refusal}
 use Rattle.symbols.specs.declared.refusals.Refusal.TheVariants.{Short}
 use Rattle.symbols.specs.Refusals.{fill_answer, filled}
@@ -64,35 +66,43 @@ ahead_other z b bs e =
     other : (s : Symbol) (z : ℕ) → is_corner s ≡ false → left s z ≡ suc z
     other s z e = rw e
 
--- after i bytes, with z corners to come
-abbrev pub Counting : List ℕ → ℕ → ℕ → Type 0
-Counting bs i z = (i + ahead z (drop i bs) ≡ ahead 4 bs) × (1 ≤ z) × (z ≤ 4)
-
-pub count_on : (bs : List ℕ) (i z : ℕ) → i < length bs → get_or bs i 0 ≢ 0 → Counting bs i z → Counting bs (i + 1) z
-count_on bs i zero h n v = absurd (omega (arith, v.1))
-count_on bs i (suc z) h n v =
-    let e : ahead (suc z) (drop i bs) ≡ suc (ahead (suc z) (drop (i + 1) bs)) = at_drop_more (ahead (suc z)) bs i 0 h ∙ ahead_other z (get_or bs i 0) (drop (i + 1) bs) n in
-    (omega (arith, v.0), v.1, v.2)
-
-pub count_corner : (bs : List ℕ) (i z : ℕ) → i < length bs → get_or bs i 0 ≡ 0 → z ≢ 1 → Counting bs i z → Counting bs (i + 1) (z - 1)
-count_corner bs i zero h n m v = absurd (omega (arith, v.1))
-count_corner bs i (suc z) h n m v =
-    let e : ahead (suc z) (drop i bs) ≡ suc (ahead z (drop (i + 1) bs)) = at_drop_more (ahead (suc z)) bs i 0 h ∙ ahead_corner z (get_or bs i 0) (drop (i + 1) bs) n in
-    let q : suc z - 1 ≡ z = omega arith in
-    subst (Counting bs (i + 1)) (sym q) (omega (arith, v.0), omega arith, omega (arith, v.2))
-
-pub count_last : (bs : List ℕ) (i z : ℕ) → i < length bs → get_or bs i 0 ≡ 0 → z ≡ 1 → Counting bs i z → i + 1 ≡ ahead 4 bs
-count_last bs i z h n m v =
-    let e : ahead 1 (drop i bs) ≡ 1 = at_drop_more (ahead 1) bs i 0 h ∙ ahead_corner 0 (get_or bs i 0) (drop (i + 1) bs) n in
-    let f : ahead z (drop i bs) ≡ ahead 1 (drop i bs) = ap (λ (x : ℕ). ahead x (drop i bs)) m in
-    omega (arith, v.0)
-
 ahead_none : (z : ℕ) → ahead z [] ≡ 0
 ahead_none zero = refl
 ahead_none (suc z) = refl
 
-pub count_all : (bs : List ℕ) (i z : ℕ) → length bs ≤ i → Counting bs i z → i ≡ ahead 4 bs
-count_all bs i z h v = (let e : ahead z (drop i bs) ≡ 0 = at_drop_all (ahead z) bs i h ∙ ahead_none z in omega (arith, v.0))
+-- one byte more, with z + 1 corners to come
+ahead_front : (bs : List ℕ) (i z : ℕ) → i < length bs → ahead (suc z) (drop i bs) ≡ suc (ahead (suc z - bool_byte (eqb (get_or bs i 0) 0)) (drop (i + 1) bs))
+ahead_front bs i z h =
+    let b : ℕ = get_or bs i 0 in
+    let rest = drop (i + 1) bs in
+    let cut : ahead (suc z) (drop i bs) ≡ ahead (suc z) (b ∷ rest) = at_drop_more (ahead (suc z)) bs i 0 h in
+    elim (cases_eq b 0) [
+      | inl e ↦
+          let t : suc z - bool_byte (eqb b 0) ≡ z = rw e (omega arith) in
+          rw t (cut ∙ ahead_corner z b rest e)
+      | inr n ↦
+          let t : suc z - bool_byte (eqb b 0) ≡ suc z = rw (ne_eqb b 0 n) (omega arith) in
+          rw t (cut ∙ ahead_other z b rest n)
+    ]
+
+-- after i bytes, with k corners among them
+abbrev pub Counted : List ℕ → ℕ → ℕ → Type 0
+Counted bs i k = (i + ahead (4 - k) (drop i bs) ≡ ahead 4 bs) × (k < 4)
+
+few_bits : (t : Bool) → bool_byte t ≤ 1
+few_bits true = omega arith
+few_bits false = omega arith
+
+pub count_more : (bs : List ℕ) (i k m : ℕ) → i < length bs → m ≡ bool_byte (eqb (get_or bs i 0) 0) → Counted bs i k → (i + 1 + ahead (4 - (k + m)) (drop (i + 1) bs) ≡ ahead 4 bs) × (k + m ≤ 4)
+count_more bs i k m h c v =
+    let few : m ≤ 1 = omega (arith, few_bits (eqb (get_or bs i 0) 0)) in
+    let z : 4 - k ≡ suc (3 - k) = omega (arith, v.1) in
+    let e : ahead (4 - k) (drop i bs) ≡ suc (ahead (suc (3 - k) - m) (drop (i + 1) bs)) = rw (z, c) (ahead_front bs i (3 - k) h) in
+    let q : 4 - (k + m) ≡ suc (3 - k) - m = omega (arith, v.1) in
+    (rw q (omega (arith, e, v.0)), omega (arith, v.1))
+
+pub count_all : (bs : List ℕ) (i k : ℕ) → length bs ≤ i → Counted bs i k → i ≡ ahead 4 bs
+count_all bs i k h v = (let e : ahead (4 - k) (drop i bs) ≡ 0 = at_drop_all (ahead (4 - k)) bs i h ∙ ahead_none (4 - k) in omega (arith, v.0))
 
 -- writing to the front of memory
 

@@ -1,5 +1,6 @@
 -- What sources and stores mean.
 --   Told: a size and a word for each pixel, in the order of pixel numbers
+--   Sides: the sides of a sheet are 1 to 64
 --   LawfulTold: its sides are 1 to 64, there is one word for each pixel, and each is lawful
 --   empty_word: the word without a crossing
 --   fresh: what a store tells at its opening: the empty word at every pixel
@@ -8,6 +9,7 @@
 --   word_memory: what the memory lent for it holds then
 --   sheet_told: the sheet of the words' drawings
 --   plain_told: the plain sheet of them, with a longest and a total
+--   plain_kept: the plain sheet that a store keeps: what it tells, with its longest and its total
 --   ToldSheetly: the drawings of lawful words make a sheet
 use Rattle.std.specs.Prelude.{◌≡◌, ℕ, ◌*◌, ◌≤◌, cond, List, [], ◌∷◌, map, length, replicate, Err, Result, nat_lt, slice_index_or}
 use Rattle.std.specs.List.{AllByRecursion}
@@ -24,6 +26,9 @@ pub record Told : Type 0 where
   pub width : ℕ
   pub height : ℕ
   pub words : List (List Symbol)
+
+abbrev pub Sides : ℕ → ℕ → Type 0
+Sides w h = (1 ≤ w) × (w ≤ most_side) × (1 ≤ h) × (h ≤ most_side)
 
 pub record LawfulTold (t : Told) : Type 0 where
   pub some_width : 1 ≤ t.width
@@ -53,6 +58,9 @@ sheet_told t = record { width = t.width; height = t.height; drawings = map drawn
 
 abbrev pub plain_told : Told → ℕ → ℕ → Plain
 plain_told t l n = record { width = t.width; height = t.height; longest = l; total = n; drawings = map drawn t.words }
+
+abbrev pub plain_kept : {S : Type 0} → (S → Told) → (S → ℕ) → (S → ℕ) → S → Plain
+plain_kept told longest total s = plain_told (told s) (longest s) (total s)
 
 abbrev pub ToldSheetly : Type 0
 ToldSheetly = (t : Told) → LawfulTold t → Sheetly (sheet_told t)

@@ -5,39 +5,30 @@ ghost use Rattle.stores.specs.Bytes.{decode, front_word, encoded};
 
 use symbols::{Refusal, Symbol};
 
-// The symbol of a byte.
+// How many corners a word has.
+const CORNERS: u8 = 4;
+
+// The symbol of a byte; a byte that is no code counts as a dead end.
 fn symbol_of(b: u8) -> Symbol
     ensures { result ≡ decode b }
 {
-    match Symbol::from_code(b) {
-        Some(s) => s,
-        None => Symbol::DeadEnd,
-    }
+    Symbol::try_from(b).unwrap_or(Symbol::DeadEnd)
 }
 
-// How many bytes the word at the front of bytes has.
+// How many bytes the word at the front of bytes has: those up to the fourth corner. A loop: of a chain by `filter` and `nth`
+// the proof did not close.
 pub fn front_len(bytes: &[u8]) -> usize
     ensures is { result ≡ length (front_word bytes.now) }
     ensures within { result ≤ length bytes.now }
 {
-    let mut left: u8 = 4;
+    let mut corners: u8 = 0;
     for (i, b) in bytes.iter().enumerate() {
-        if *b != 0 {
-            continue;
-        }
-        if left == 1 {
+        corners += u8::from(*b == 0);
+        if corners == CORNERS {
             return i + 1;
         }
-        left -= 1;
     }
     bytes.len()
-}
-
-// Whether so much memory is too short for so many.
-pub fn lacks_room(room: usize, n: usize) -> bool
-    ensures { MatchBool result (room < n) (n ≤ room) }
-{
-    n > room
 }
 
 // Copies the word at the front of bytes to the front of memory and tells its length. Where the memory is shorter, nothing
@@ -47,11 +38,11 @@ pub fn copy_word(bytes: &[u8], out: &mut [Symbol]) -> Result<usize, Refusal>
     ensures memory { out.new ≡ filled (front_word bytes.now) out.old }
 {
     let n = front_len(bytes);
-    if lacks_room(out.len(), n) {
+    if n > out.len() {
         return Err(Refusal::Short);
     }
-    for i in 0..n {
-        out[i] = symbol_of(bytes[i]);
+    for (i, b) in bytes[..n].iter().enumerate() {
+        out[i] = symbol_of(*b);
     }
     Ok(n)
 }
@@ -61,24 +52,20 @@ pub fn put_word(word: &[Symbol], bytes: &mut [u8]) -> Result<usize, Refusal>
     ensures answer { result ≡ fill_answer (encoded word.now) bytes.old }
     ensures memory { bytes.new ≡ filled (encoded word.now) bytes.old }
 {
-    let n = word.len();
-    if lacks_room(bytes.len(), n) {
+    if word.len() > bytes.len() {
         return Err(Refusal::Short);
     }
-    for i in 0..n {
-        bytes[i] = word[i].to_code();
+    for (i, symbol) in word.iter().enumerate() {
+        bytes[i] = u8::from(*symbol);
     }
-    Ok(n)
+    Ok(word.len())
 }
 
 // Makes the first n bytes corners. Where there are fewer bytes, nothing is written.
 pub fn blank_out(bytes: &mut [u8], n: usize)
     ensures { bytes.new ≡ filled (replicate n 0) bytes.old }
 {
-    if lacks_room(bytes.len(), n) {
-        return;
-    }
-    for i in 0..n {
-        bytes[i] = 0;
+    if n <= bytes.len() {
+        bytes[..n].fill(0);
     }
 }

@@ -3,15 +3,19 @@
 
 ghost use Rattle.std.specs.Prelude.{◌≡◌, ℕ};
 ghost use Rattle.plain.specs.Plain.{Keeps, answer, step, write as written};
-ghost use Rattle.stores.specs.Sources.{Told, LawfulTold, word_answer, word_memory, plain_told, ToldSheetly};
+ghost use Rattle.stores.specs.Sources.{Told, LawfulTold, word_answer, word_memory, plain_kept, ToldSheetly};
 
 use symbols::{Refusal, Symbol};
 
 mod bytes;
 mod pixels;
+mod steps;
+mod words;
 
-pub use bytes::{blank_out, copy_word, front_len, lacks_room, put_word};
-pub use pixels::{has_pixel, pixels_in};
+pub use bytes::{blank_out, copy_word, front_len, put_word};
+pub use pixels::{Size, is_side};
+pub use steps::{Step, replay};
+pub use words::{empty_word, word_of};
 
 // An opening that was refused hands the memory back.
 #[derive(Drop)]
@@ -33,6 +37,17 @@ pub trait Source {
 
     fn height(&self) -> u16
         ensures { result ≡ (told self.now).height };
+
+    // Both sides.
+    fn size(&self) -> Size
+        ensures width { result.width ≡ (told self.now).width }
+        ensures height { result.height ≡ (told self.now).height }
+    {
+        Size {
+            width: self.width(),
+            height: self.height(),
+        }
+    }
 
     // Copies a pixel's word to the front of memory and tells its length. Refused where there is no such pixel, then where
     // the memory is shorter than the word; then nothing is written.
@@ -57,10 +72,10 @@ pub trait Store: Source {
 
     // Gives a pixel a word: what is answered, and what the store means then, is the plain sheet's.
     fn write(&mut self, pixel: u32, word: &[Symbol]) -> Result<(), Refusal>
-        ensures answer { result ≡ answer (plain_told (Self.Source.told self.old) (longest self.old) (total self.old)) (written pixel word.now) }
-        ensures after { plain_told (Self.Source.told self.new) (longest self.new) (total self.new) ≡ step (plain_told (Self.Source.told self.old) (longest self.old) (total self.old)) (written pixel word.now) };
+        ensures answer { result ≡ answer (plain_kept Self.told longest total self.old) (written pixel word.now) }
+        ensures after { plain_kept Self.told longest total self.new ≡ step (plain_kept Self.told longest total self.old) (written pixel word.now) };
 
-    ghost keeps: { (s : Self) → Keeps (plain_told (Self.Source.told s) (longest s) (total s)) };
+    ghost keeps: { (s : Self) → Keeps (plain_kept Self.told longest total s) };
 }
 
 // The sheet of a source: its words draw one.

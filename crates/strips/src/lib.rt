@@ -13,9 +13,7 @@ ghost use Rattle.std.proofs.Common.{arith};
 ghost use Rattle.stores.proofs.Writes.{keeps_told};
 ghost use Rattle.strips.specs.Cuts.{all_short, symbols_told, lengths_within};
 
-use stores::{
-    Source, Store, Unopened, blank_out, copy_word, front_len, has_pixel, pixels_in, put_word,
-};
+use stores::{Size, Source, Store, Unopened, blank_out, copy_word, front_len, put_word};
 use symbols::{Refusal, Symbol};
 use words::Word;
 
@@ -23,11 +21,13 @@ use words::Word;
 #[derive(Drop)]
 pub struct StripStore {
     memory: Vec<u8>,
-    width: u16,
-    height: u16,
-    ghost sides: { Sides width height (vec_len memory) },
-    ghost each: { EachLawful (width * height) memory.items },
+    size: Size,
+    ghost sides: { Sides size.width size.height (vec_len memory) },
+    ghost each: { EachLawful (size.width * size.height) memory.items },
 }
+
+// The most symbols that a word has.
+const LONGEST: usize = 64;
 
 // Where a word begins, how long it is, and how long the words behind it are.
 #[derive(Clone, Copy)]
@@ -38,10 +38,10 @@ struct Spot {
 }
 
 // Whether a store of this size opens in that much memory.
-fn opens(room: usize, width: u16, height: u16) -> bool
-    ensures { Decides result (Opens width height 64 room) }
+fn opens(room: usize, size: Size) -> bool
+    ensures { Decides result (Opens size.width size.height LONGEST room) }
 {
-    1 <= width && width <= 64 && 1 <= height && height <= 64 && 4 * pixels_in(width, height) <= room
+    size.is_sheet() && 4 * size.pixels() <= room
 }
 
 // Where the word behind the first n words begins.
@@ -49,30 +49,32 @@ fn seek(memory: &[u8], n: usize) -> usize
     ensures is { result ≡ lengths (strip_words n memory.now) }
     ensures within { result ≤ length memory.now }
 {
-    let mut at: usize = 0;
-    for i in 0..n {
+    let mut at = 0;
+    for _word in 0..n {
         at += front_len(&memory[at..]);
     }
     at
 }
 
-// Finds a pixel's word among count words.
-fn find(memory: &[u8], count: usize, pixel: usize) -> Spot
-    requires { pixel < count }
-    ensures { Spotted memory.now count pixel result.at result.old result.tail }
-{
-    let at = seek(memory, pixel);
-    let old = front_len(&memory[at..]);
-    let tail = seek(&memory[at + old..], count - pixel - 1);
-    Spot { at, old, tail }
-}
+impl Spot {
+    // Finds a pixel's word among count words.
+    fn find(memory: &[u8], count: usize, pixel: usize) -> Spot
+        requires { pixel < count }
+        ensures { Spotted memory.now count pixel result.at result.old result.tail }
+    {
+        let at = seek(memory, pixel);
+        let old = front_len(&memory[at..]);
+        let tail = seek(&memory[at + old..], count - pixel - 1);
+        Spot { at, old, tail }
+    }
 
-// Whether a word of that length goes where another one stands.
-fn has_room(room: usize, spot: Spot, len: usize) -> bool
-    requires { spot.at + spot.old + spot.tail ≤ room }
-    ensures { MatchBool result (spot.at + len + spot.tail ≤ room) (room < spot.at + len + spot.tail) }
-{
-    len <= room - spot.at - spot.tail
+    // Whether a word of that length goes where this one stands.
+    fn has_room(self, room: usize, len: usize) -> bool
+        requires { self.at + self.old + self.tail ≤ room }
+        ensures { MatchBool result (self.at + len + self.tail ≤ room) (room < self.at + len + self.tail) }
+    {
+        len <= room - self.at - self.tail
+    }
 }
 
 // Moves n bytes.
@@ -99,53 +101,45 @@ impl StripStore {
     // four bytes for each pixel.
     pub fn open(memory: Vec<u8>, width: u16, height: u16) -> Result<StripStore, Unopened>
         ensures { MatchResult result
-            (λ s. Opens width height 64 (vec_len memory) × (strip_told s.width s.height s.memory.items ≡ fresh width height) × (vec_len s.memory ≡ vec_len memory))
+            (λ s. Opens width height 64 (vec_len memory) × (strip_told s.size.width s.size.height s.memory.items ≡ fresh width height) × (vec_len s.memory ≡ vec_len memory))
             (λ e. (e.refusal ≡ refusals.Opening) × (e.memory ≡ memory) × (Opens width height 64 (vec_len memory) → ⊥)) }
     {
-        if !opens(memory.len(), width, height) {
+        let size = Size { width, height };
+        if !opens(memory.len(), size) {
             return Err(Unopened {
                 refusal: Refusal::Opening,
                 memory,
             });
         }
         let mut memory = memory;
-        let n = 4 * pixels_in(width, height);
-        blank_out(&mut memory, n);
-        Ok(StripStore {
-            memory,
-            width,
-            height,
-        })
+        blank_out(&mut memory, 4 * size.pixels());
+        Ok(StripStore { memory, size })
     }
 
     // Gives the memory back.
     pub fn into_memory(self) -> Vec<u8>
         ensures { result ≡ self.memory }
     {
-        let StripStore {
-            memory,
-            width: _,
-            height: _,
-        } = self;
+        let StripStore { memory, size: _ } = self;
         memory
     }
 }
 
 impl Source for StripStore {
-    ghost told = { λ s. strip_told s.width s.height s.memory.items };
+    ghost told = { λ s. strip_told s.size.width s.size.height s.memory.items };
 
-    ghost lawful = { λ s. strip_lawful s.width s.height (vec_len s.memory) s.memory.items s.sides s.each };
+    ghost lawful = { λ s. strip_lawful s.size.width s.size.height (vec_len s.memory) s.memory.items s.sides s.each };
 
     fn width(&self) -> u16 {
-        self.width
+        self.size.width
     }
 
     fn height(&self) -> u16 {
-        self.height
+        self.size.height
     }
 
     fn word(&self, pixel: u32, out: &mut [Symbol]) -> Result<usize, Refusal> {
-        if !has_pixel(self.width, self.height, pixel) {
+        if !self.size.has(pixel) {
             return Err(Refusal::NoPixel);
         }
         let at = seek(&self.memory, pixel as usize);
@@ -159,18 +153,18 @@ impl Store for StripStore {
     ghost total = { λ s. vec_len s.memory };
 
     ghost keeps = { λ s.
-        let n = s.width * s.height in
+        let n = s.size.width * s.size.height in
         let bs = s.memory.items in
         let all = strip_all n bs s.each in
-        keeps_told (strip_told s.width s.height bs) 64 s.memory.len
-        (strip_lawful s.width s.height s.memory.len bs s.sides s.each)
+        keeps_told (strip_told s.size.width s.size.height bs) 64 s.memory.len
+        (strip_lawful s.size.width s.size.height s.memory.len bs s.sides s.each)
         (omega arith)
         s.sides.4
         (all_short (strip_words n bs) all)
         (omega (arith, symbols_told (strip_words n bs) all, lengths_within n bs, s.memory.ok.0)) };
 
     fn longest_word(&self) -> usize {
-        64
+        LONGEST
     }
 
     fn room(&self) -> usize {
@@ -178,15 +172,12 @@ impl Store for StripStore {
     }
 
     fn write(&mut self, pixel: u32, word: &[Symbol]) -> Result<(), Refusal> {
-        if !has_pixel(self.width, self.height, pixel) {
+        if !self.size.has(pixel) {
             return Err(Refusal::NoPixel);
         }
-        if let Err(refusal) = Word::from_symbols(word) {
-            return Err(refusal);
-        }
-        let count = pixels_in(self.width, self.height);
-        let spot = find(&self.memory, count, pixel as usize);
-        if !has_room(self.memory.len(), spot, word.len()) {
+        Word::from_symbols(word)?;
+        let spot = Spot::find(&self.memory, self.size.pixels(), pixel as usize);
+        if !spot.has_room(self.memory.len(), word.len()) {
             return Err(Refusal::OverTotal);
         }
         let Spot { at, old, tail } = spot;

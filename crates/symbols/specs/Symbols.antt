@@ -6,13 +6,15 @@
 --   roads: the four roads, in the order of their codes
 --   road_code, road_letter: the code and the letter of a road
 --   road_coded: the road with a code, if there is one
+--   or_unknown: what is given, or that a code or a character is unknown
 --   joined: one more before a list, if there are both
 --   spelt: the symbols of a text, if each of its characters is one; a text is its list of bytes
 --   text: the text of symbols
-use Rattle.std.specs.Prelude.{ℕ, cond, List, [], ◌∷◌, map, Some, None, Option, ◌==◌}
+use Rattle.std.specs.Prelude.{ℕ, cond, List, [], ◌∷◌, map, Some, None, Ok, Err, Option, Result, ◌==◌}
 use Rattle.symbols.specs.declared.roads.Road.{Road}
 use Rattle.symbols.specs.declared.roads.Road.TheVariants.{West, North, East, South}
 use Rattle.symbols.specs.declared.symbols.Symbol.{Symbol}
+use Rattle.symbols.specs.declared.unknown.Unknown.{Unknown}
 use Rattle.symbols.specs.declared.symbols.Symbol.TheVariants.{Corner, DeadEnd, SplitOpen, SplitClose, JunctionOpen, Branch, JunctionClose}
 
 abbrev pub symbols : List Symbol
@@ -64,6 +66,10 @@ road_letter South = 83
 
 abbrev pub road_coded : ℕ → Option Road
 road_coded n = picked road_code n roads
+
+abbrev pub or_unknown : {A : Type 0} → ℕ → Option A → Result A (Unknown ℕ)
+or_unknown n None = Err (record { 0 = n })
+or_unknown n (Some x) = Ok x
 
 abbrev pub joined : {A : Type 0} → Option A → Option (List A) → Option (List A)
 joined None xs = None

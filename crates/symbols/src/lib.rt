@@ -4,7 +4,9 @@
 mod refusals;
 mod roads;
 mod symbols;
+mod unknown;
 
 pub use refusals::{Refusal, fill};
 pub use roads::Road;
 pub use symbols::{Crossing, Mark, Symbol};
+pub use unknown::Unknown;

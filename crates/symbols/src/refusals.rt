@@ -1,8 +1,10 @@
 // Why a call is refused, and how one that is not fills the memory lent to it.
-ghost use Rattle.std.specs.Prelude.{◌≡◌};
-ghost use Rattle.symbols.specs.Refusals.{number, fill_answer, filled};
+ghost use Rattle.std.specs.Prelude.{◌≡◌, Some};
+ghost use Rattle.symbols.specs.Refusals.{number, refusal_text, fill_answer, filled};
 
 use crate::roads::Road;
+use std::error::Error;
+use std::fmt;
 
 // Why a call was refused.
 #[derive(Clone, Copy, PartialEq, Eq, Debug)]
@@ -67,6 +69,25 @@ impl Refusal {
     }
 }
 
+// A refusal is printed with its number and the place that it carries: the pixel and the letter of the road, and of a dart its
+// place too.
+impl fmt::Display for Refusal {
+    ghost output = { λ f. Some (refusal_text f) };
+
+    fn fmt<W: fmt::Write>(&self, f: &mut fmt::Formatter<W>) -> fmt::Result {
+        let n = self.number();
+        match self {
+            Refusal::RoadFails { pixel, road } => write!(f, "refused {n} {pixel}{road}"),
+            Refusal::OnRing { pixel, road, place } => {
+                write!(f, "refused {n} {pixel}{road}{place}")
+            }
+            _ => write!(f, "refused {n}"),
+        }
+    }
+}
+
+impl Error for Refusal {}
+
 // Copies an answer to the front of the memory lent for it and tells its length. Where the memory is shorter, nothing is written.
 pub fn fill<T: Copy>(answer: &[T], memory: &mut [T]) -> Result<usize, Refusal>
     ensures answer { result ≡ fill_answer answer.now memory.old }
@@ -76,6 +97,6 @@ pub fn fill<T: Copy>(answer: &[T], memory: &mut [T]) -> Result<usize, Refusal>
     if n > memory.len() {
         return Err(Refusal::Short);
     }
-    memory[0..n].copy_from_slice(answer);
+    memory[..n].copy_from_slice(answer);
     Ok(n)
 }

@@ -1,6 +1,6 @@
 -- The rule that the code finds broken is the fault of the table.
 --   judged_fault: what the code refuses with is the fault
---   no_fault, rising_table: a table that means a drawing has none, and one that has none has few records and rising roads
+--   no_fault: a table that means a drawing has none
 --   built_word: a table without a fault is built into the word of its drawing
 use Rattle.std.proofs.Common.{◌≡◌, ◌≤◌, Bool, true, false, ◌||◌, ltb, ◌↔◌, List, length, Some, None, Ok, Err, sym, ◌∙◌, inl, inr}
 use Rattle.std.proofs.lemmas.Bool.{cases_Bool, or_parts, or_from, ltb-false, le-ltb}
@@ -51,6 +51,3 @@ built_word t e =
     let w = word_of (canonical t) in
     let b : build_word t ≡ Ok w = rw (sym e) in
     judged_ok w (tables_come_back t w b).0 ∙ sym b
-
-pub rising_table : (t : List Crossing) → None ≡ fault t → (length t ≤ 60) × Rising t
-rising_table t e = (let m = (rules_are_told t).0 (sym e) in (m.few, m.roads))

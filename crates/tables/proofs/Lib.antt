@@ -1,4 +1,4 @@
 mod Stacks
-mod Steps
-mod Writing
 mod Faults
+mod Members
+mod Turning

@@ -3,6 +3,7 @@
 --   Named: each number is its own place, or a smaller place's number
 --   Nested: no group that begins inside another one goes on behind it
 --   Open: the open groups are those begun that go on
+--   later, sooner: a group's first record that stands further on, and a record of that group there
 --   firsts_at, length_firsts: the first records of a table's groups, by number
 --   stack_decides: the theorem
 use Rattle.std.proofs.Common.{◌≡◌, ℕ, zero, suc, ◌+◌, ◌-◌, ◌<◌, ◌≤◌, Bool, true, false, cond, eqb, ◌⊎◌, ◌↔◌, List, [], ◌∷◌, length, get_or, drop, Some, None, Option, sym, refl, ap, ◌∙◌, subst, inl, inr, arith, drop-cons}
@@ -151,13 +152,13 @@ firsts_at t i h = get_or-map (firsts_in t) t i blank 0 h
 pub length_firsts : (t : List Crossing) → length (firsts t) ≡ length t
 length_firsts t = length-map t (firsts_in t)
 
-later : (t : List Crossing) (h m : ℕ) → within h (drop m (firsts t)) ≡ true → (j : ℕ) × (m ≤ j) × (j < length t) × (leader t j ≡ h)
+pub later : (t : List Crossing) (h m : ℕ) → within h (drop m (firsts t)) ≡ true → (j : ℕ) × (m ≤ j) × (j < length t) × (leader t j ≡ h)
 later t h m p =
     let r = within_from h (drop m (firsts t)) p in
     let l : m + r.0 < length t = omega (arith, r.1, length-drop m (firsts t), length_firsts t) in
     (m + r.0, omega arith, l, sym (get_or-drop m (firsts t) r.0 0 ∙ firsts_at t (m + r.0) l) ∙ r.2)
 
-sooner : (t : List Crossing) (h m j : ℕ) → m ≤ j → j < length t → leader t j ≡ h → within h (drop m (firsts t)) ≡ true
+pub sooner : (t : List Crossing) (h m j : ℕ) → m ≤ j → j < length t → leader t j ≡ h → within h (drop m (firsts t)) ≡ true
 sooner t h m j a b e =
     let z : m + (j - m) ≡ j = omega arith in
     within_at h (drop m (firsts t)) (j - m) (omega (arith, length-drop m (firsts t), length_firsts t))

@@ -5,11 +5,7 @@
 --   inner: the open groups after a record of a group that is open
 --   turn: the open groups, innermost first, after one record more; nothing where groups cross
 --   nests: whether no groups cross, by going over all records
---   pile: the stack that the first places of a list hold, the last of them on top
---   piled: the same of a depth, if there is one
---   Lasts: for each number below a bound, a place where the same number stands last
---   GoesOn: for each number, whether it stands again further on
-use Rattle.std.specs.Prelude.{◌≡◌, ℕ, zero, suc, ◌+◌, ◌<◌, ◌≤◌, Bool, true, false, cond, ◌||◌, List, [], ◌∷◌, map, length, drop, Some, None, Option, ◌==◌, slice_index, slice_index_or}
+use Rattle.std.specs.Prelude.{ℕ, suc, Bool, true, false, cond, ◌||◌, List, [], ◌∷◌, map, Some, None, Option, ◌==◌}
 use Rattle.symbols.specs.declared.symbols.Crossing.{Crossing}
 use Rattle.rules.specs.Tables.{first_of}
 
@@ -38,19 +34,3 @@ abbrev pub nests : ℕ → Option (List ℕ) → List ℕ → Bool
 nests k None [] = false
 nests k (Some st) [] = true
 nests k o (g ∷ gs) = nests (suc k) (turn k g (within g gs) o) gs
-
--- The stack that the first n places of a hold, the last on top.
-abbrev pub pile : List ℕ → ℕ → List ℕ
-pile a zero = []
-pile a (suc n) = slice_index a n ∷ pile a n
-
-abbrev pub piled : List ℕ → Option ℕ → Option (List ℕ)
-piled a None = None
-piled a (Some n) = Some (pile a n)
-
-abbrev pub Lasts : List ℕ → List ℕ → ℕ → Type 0
-Lasts xs lasts n =
-    (j : ℕ) → j < n → (j ≤ slice_index lasts (slice_index xs j)) × (slice_index lasts (slice_index xs j) < n) × (slice_index xs (slice_index lasts (slice_index xs j)) ≡ slice_index xs j)
-
-abbrev pub GoesOn : List ℕ → List Bool → Type 0
-GoesOn xs more = (k : ℕ) → k < length xs → slice_index_or more k false ≡ within (slice_index xs k) (drop (k + 1) xs)

@@ -1,10 +1,13 @@
 // Writing the word of a table.
-ghost use Rattle.std.specs.Prelude.{◌≡◌, ℕ, ◌+◌, ◌≤◌, ◌++◌, length, take, replicate};
+ghost use Rattle.std.specs.Prelude.{◌≡◌, ℕ, ◌+◌, ◌≤◌, ◌++◌, length, replicate};
 ghost use Rattle.symbols.specs.declared.symbols.Symbol.TheVariants.{Corner};
+ghost use Rattle.rows.specs.Rows.{items};
 ghost use Rattle.rules.specs.Tables.{Rising, symbol_at, canonical, word_of, build_word};
 ghost use Rattle.words.specs.Held.{in_symbols};
 
-use crate::{fault_of, find_more, name_groups};
+use crate::groups::{first_record, goes_on};
+use crate::judging::judge;
+use rows::Row;
 use symbols::{Crossing, Refusal, Symbol};
 use words::Word;
 
@@ -24,51 +27,37 @@ fn symbol_of(vertex: bool, first: bool, more: bool) -> Symbol
     }
 }
 
-// Writes m corners at the place n; answers the place behind them.
-fn corner_run(out: &mut [Symbol], n: usize, m: usize) -> usize
-    requires { n + m ≤ length out.old }
-    ensures at { result ≡ n + m }
-    ensures run { take (n + m) out.new ≡ take n out.old ++ replicate m Corner }
+// Puts n corners behind a word.
+fn push_corners(word: &mut Row<Symbol, 64>, n: u8)
+    requires { length (items word.old) + n ≤ 64 }
+    ensures { items word.new ≡ items word.old ++ replicate n Corner }
 {
-    for i in 0..m {
-        out[n + i] = Symbol::Corner;
+    for _ in 0..n {
+        let _ = word.push(Symbol::Corner);
     }
-    n + m
 }
 
-// Writes the word of a table's drawing; answers its length.
-fn write_word(table: &[Crossing], out: &mut [Symbol]) -> usize
-    requires { (length table.now ≤ 60) × ((Rising table.now) × (64 ≤ length out.old)) }
-    ensures long { result ≡ length table.now + 4 }
-    ensures word { take result out.new ≡ word_of (canonical table.now) }
+// The word of a table's drawing.
+fn word_of(table: &[Crossing]) -> Row<Symbol, 64>
+    requires { (length table.now ≤ 60) × (Rising table.now) }
+    ensures { items result ≡ word_of (canonical table.now) }
 {
-    let mut places = [0u8; 60];
-    let firsts = &mut places[0..table.len()];
-    name_groups(table, firsts);
-    let mut more = [false; 60];
-    find_more(firsts, &mut more);
+    let mut word = Row::new(Symbol::Corner);
     let mut road: u8 = 0;
-    let mut n: usize = 0;
-    for k in 0..table.len() {
-        let c = table[k];
-        let run = usize::from(c.road - road);
-        let end = corner_run(out, n, run);
-        let first = usize::from(firsts[k]);
-        out[end] = symbol_of(c.vertex, first == k, more[k]);
+    for (k, c) in table.iter().enumerate() {
+        push_corners(&mut word, c.road - road);
+        let first = first_record(table, c.group) == k;
+        let _ = word.push(symbol_of(c.vertex, first, goes_on(table, k)));
         road = c.road;
-        n = end + 1;
     }
-    corner_run(out, n, usize::from(4 - road))
+    push_corners(&mut word, 4 - road);
+    word
 }
 
 // The word of the drawing that a table means, or the first rule that the table breaks.
 pub fn build(table: &[Crossing]) -> Result<Word, Refusal>
     ensures { in_symbols result ≡ build_word table.now }
 {
-    if let Some(refusal) = fault_of(table) {
-        return Err(refusal);
-    }
-    let mut out = [Symbol::Corner; 64];
-    let n = write_word(table, &mut out);
-    Word::from_symbols(&out[0..n])
+    judge(table)?;
+    Word::from_symbols(word_of(table).as_slice())
 }

@@ -1,10 +1,12 @@
 -- Steps one after another.
+--   accepted, refused: what is answered where nothing was refused; where something was
 --   step_made: a step that is accepted goes on to next
 --   step_stays: a step that is refused leaves the walk as it was
 --   onward_more: one more step by next
 --   Gone: after so many steps of a run
 --   gone_none, gone_more, gone_stop, gone_all: a run at its start, after one more step, where a step is refused, at its end
 use Rattle.std.proofs.Common.{◌≡◌, ℕ, zero, suc, ◌+◌, ◌-◌, ◌<◌, min, Bool, true, false, cond, Ok, Err, Result, sym, refl, ap, ◌∙◌, subst, arith}
+use Rattle.std.specs.Result.{is_err}
 use Rattle.symbols.specs.declared.refusals.Refusal.{Refusal}
 use Rattle.symbols.specs.declared.refusals.Refusal.TheVariants.{Home}
 use Rattle.model.specs.declared.darts.Dart.{Dart}
@@ -13,6 +15,14 @@ use Rattle.model.specs.Darts.{next}
 use Rattle.model.specs.Streets.{then_go}
 use Rattle.walks.specs.declared.walk.Walk.{Walk}
 use Rattle.walks.specs.Walks.{most_steps, is_home, gone_on, answer_by, walk_by, step_answer, step_walk, if_made, steps_made, walk_after, raised, onward}
+
+pub accepted : (r : Result (Unit {0}) Refusal) → is_err r ≡ false → Ok tt ≡ r
+accepted (Ok u) e = refl
+accepted (Err f) e = cc
+
+pub refused : (r : Result (Unit {0}) Refusal) → is_err r ≡ true → (f : Refusal) × (Err f ≡ r)
+refused (Ok u) e = cc
+refused (Err f) e = (f, refl)
 
 -- what a step that was accepted did
 pub record Made (s : Sheet) (w : Walk) (e : Dart) : Type 0 where

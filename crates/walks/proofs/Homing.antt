@@ -6,6 +6,7 @@
 --   given_back: a repetition among them is a return
 --   given_short: so many steps with no return are fewer than the darts
 --   pixels_few: a sheet has at most 4096 pixels
+--   in_few: a pixel has no more darts than crossings
 --   darts_few: a sheet has at most 60 darts for each pixel
 use Rattle.std.proofs.Common.{◌≡◌, ℕ, zero, suc, ◌+◌, ◌*◌, ◌<◌, ◌≤◌, true, false, cond, eqb, List, [], ◌∷◌, ◌++◌, length, Ok, sym, refl, ap, ◌∙◌, subst, inl, inr, mul-le-mul_right, arith, length-append}
 use Rattle.std.specs.List.{flat_map}
@@ -100,7 +101,7 @@ length_from i (suc n) = ap suc (length_from (suc i) n)
 length_on : (s : Sheet) (p : ℕ) (q : Road) → length (darts_on s p q) ≡ count_on (road_code q) (drawing_at s p)
 length_on s p q = length-map (up_to (count_on (road_code q) (drawing_at s p))) _ ∙ length_from 0 (count_on (road_code q) (drawing_at s p))
 
-in_few : (s : Sheet) (p : ℕ) → length (darts_in s p) ≤ length (drawing_at s p)
+pub in_few : (s : Sheet) (p : ℕ) → length (darts_in s p) ≤ length (drawing_at s p)
 in_few s p =
     let w : List Dart = darts_on s p West in
     let n : List Dart = darts_on s p North in

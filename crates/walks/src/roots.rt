@@ -1,6 +1,5 @@
 // The smallest dart of a dart's loop.
 ghost use Rattle.std.specs.Prelude.{◌≡◌};
-ghost use Rattle.model.specs.Darts.{dart_le};
 ghost use Rattle.model.specs.Streets.{lesser, root};
 ghost use Rattle.stores.specs.Sources.{sheet_told};
 ghost use Rattle.walks.specs.Statements.{Homeward, RootLeast};
@@ -10,30 +9,17 @@ use model::Dart;
 use stores::Source;
 use symbols::Refusal;
 
-// Whether a dart is no later than another: by pixel, then road, then place.
-pub fn no_later(a: Dart, b: Dart) -> bool
-    ensures { result ≡ dart_le a b }
-{
-    if a.pixel != b.pixel {
-        return a.pixel < b.pixel;
-    }
-    if a.road.to_code() != b.road.to_code() {
-        return a.road.to_code() < b.road.to_code();
-    }
-    a.place <= b.place
-}
-
-// The smaller of two darts.
+// The smaller of two darts. In the loop below the order of darts is too much for the proof, so it is told here.
 fn lesser(a: Dart, b: Dart) -> Dart
     ensures { result ≡ lesser a b }
 {
-    if no_later(a, b) { a } else { b }
+    a.min(b)
 }
 
 // The smallest dart of a dart's loop, by going on until it is home; refused where there is no such dart, and where a road
 // to be passed fails.
 pub fn root<S: Source>(source: &S, dart: Dart) -> Result<Dart, Refusal>
-    ensures { result ≡ root (sheet_told (S.Source.told source.now)) dart }
+    ensures { result ≡ root (sheet_told (S.told source.now)) dart }
 {
     let mut low = dart;
     let mut walk = Walk::start(source, dart)?;

@@ -6,7 +6,7 @@
 --   draws_same_laws: that goes both ways, and along a chain
 --   crossings_told, draws_same_told: crossings are told the same exactly where they are equal, and words exactly where their
 --     drawings are
-use Rattle.std.specs.Prelude.{◌≡◌, Bool, List, take, Ok, Err, Result, nat_eq, Decides}
+use Rattle.std.specs.Prelude.{◌≡◌, Bool, List, Ok, Err, Result, nat_eq, Decides}
 use Rattle.std.specs.Bool.{beq}
 use Rattle.std.specs.Ordering.{on, eq_of_both}
 use Rattle.std.specs.Cmp.{IsPartialEquivalence, partial_equiv_from_equiv, on_equiv, and_equiv, nat_eq_equiv, bool_eq_equiv, booleans_Decides}
@@ -14,13 +14,14 @@ use Rattle.std.specs.Cmp.Lexicographic.{pointwise, pointwise_decides, lists_equi
 use Rattle.std.proofs.Common.{ap}
 use Rattle.std.proofs.lemmas.Bool.Decides.{Decides-like, Decides-and, Decides-eqb}
 use Rattle.symbols.specs.declared.symbols.Crossing.{Crossing}
+use Rattle.rows.specs.Rows.{items}
 use Rattle.rules.specs.Words.{drawn}
 use Rattle.symbols.specs.declared.refusals.Refusal.{Refusal}
 use Rattle.symbols.specs.declared.symbols.Symbol.{Symbol}
 use Rattle.words.specs.declared.Word.{Word}
 
 abbrev pub symbols_of : Word → List Symbol
-symbols_of w = take w.len w.held
+symbols_of w = items w.symbols
 
 abbrev pub in_symbols : Result Word Refusal → Result (List Symbol) Refusal
 in_symbols (Ok w) = Ok (symbols_of w)

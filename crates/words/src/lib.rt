@@ -1,9 +1,11 @@
-// Lawful words of symbols: read from text or from symbols, written as text, and drawn.
+// Lawful words: read and written as text, and what they hold and mean.
 #![tactic(auto)]
 
-ghost use Rattle.std.specs.Prelude.{◌≡◌, ◌≤◌, true, take};
+ghost use Rattle.std.specs.Prelude.{◌≡◌, true};
+ghost use Rattle.rows.specs.Rows.{items};
 ghost use Rattle.rules.specs.Words.{lawful};
 
+use rows::Row;
 use symbols::Symbol;
 
 mod making;
@@ -12,8 +14,6 @@ mod showing;
 // A lawful word: 4 to 64 symbols that read through, four of them corners, one of these last.
 #[derive(Clone, Copy)]
 pub struct Word {
-    held: [Symbol; 64],
-    len: usize,
-    ghost within: { len ≤ 64 },
-    ghost sound: { lawful (take len held) ≡ true },
+    symbols: Row<Symbol, 64>,
+    ghost sound: { lawful (items symbols) ≡ true },
 }

@@ -1,29 +1,26 @@
 // Making a word of symbols and of text.
-ghost use Rattle.std.specs.Prelude.{◌≡◌, ℕ, ◌≤◌, length, take, Some, Err, MatchBool};
+ghost use Rattle.std.specs.Prelude.{◌≡◌, ℕ, ◌≤◌, length, Some, Err, MatchOption};
 ghost use Rattle.symbols.specs.declared.refusals.Refusal.TheVariants.{NoWord};
 ghost use Rattle.symbols.specs.Symbols.{spelt};
+ghost use Rattle.rows.specs.Rows.{items};
 ghost use Rattle.rules.specs.Words.{judged, read_word};
 ghost use Rattle.words.specs.Held.{in_symbols};
 
 use crate::Word;
 use drawings::Drawing;
-use symbols::{Refusal, Symbol, fill};
+use rows::Row;
+use symbols::{Refusal, Symbol};
 
-// Spells a text into symbols; whether it is at most 64 of them.
-fn spell(text: &[u8], out: &mut [Symbol]) -> bool
-    requires { length out.old ≡ 64 }
-    ensures { MatchBool result ((length text.now ≤ 64) × (spelt text.now ≡ Some (take (length text.now) out.new))) (read_word text.now ≡ Err NoWord) }
+// The symbols that a text spells, if there are at most 64 and each byte is the character of one.
+fn spell(text: &[u8]) -> Option<Row<Symbol, 64>>
+    ensures { MatchOption result (read_word text.now ≡ Err NoWord) (λ r. spelt text.now ≡ Some (items r)) }
 {
-    if text.len() > out.len() {
-        return false;
+    let mut symbols = Row::new(Symbol::Corner);
+    for b in text {
+        let symbol = Symbol::try_from(char::from(*b)).ok()?;
+        symbols.push(symbol)?;
     }
-    for (i, b) in text.iter().enumerate() {
-        let Some(s) = Symbol::from_char(char::from(*b)) else {
-            return false;
-        };
-        out[i] = s;
-    }
-    true
+    Some(symbols)
 }
 
 impl Word {
@@ -31,23 +28,17 @@ impl Word {
     pub fn from_symbols(symbols: &[Symbol]) -> Result<Word, Refusal>
         ensures { in_symbols result ≡ judged symbols.now }
     {
-        if let Err(refusal) = Drawing::read(symbols) {
-            return Err(refusal);
-        }
-        let mut held = [Symbol::Corner; 64];
-        let len = fill(symbols, &mut held)?;
-        Ok(Word { held, len })
+        let _ = Drawing::read(symbols)?;
+        let symbols = Row::from_slice(symbols, Symbol::Corner).unwrap();
+        Ok(Word { symbols })
     }
 
     // The word of a text of bytes. A symbol is one ASCII character, so a byte of any other character is no symbol.
     pub fn read_bytes(text: &[u8]) -> Result<Word, Refusal>
         ensures { in_symbols result ≡ read_word text.now }
     {
-        let mut symbols = [Symbol::Corner; 64];
-        if !spell(text, &mut symbols) {
-            return Err(Refusal::NoWord);
-        }
-        Word::from_symbols(&symbols[0..text.len()])
+        let symbols = spell(text).ok_or(Refusal::NoWord)?;
+        Word::from_symbols(symbols.as_slice())
     }
 
     // The word of a text: refused where it is not 4 to 64 known symbols with four corners and one last, then where these do not read through.

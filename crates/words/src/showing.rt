@@ -1,45 +1,35 @@
 // What a word holds and means.
-ghost use Rattle.std.specs.Prelude.{◌≡◌, ℕ, ◌≤◌, true, map, length, take, Decides};
+ghost use Rattle.std.specs.Prelude.{◌≡◌, ℕ, ◌≤◌, true, map, length, Some, Decides};
 ghost use Rattle.symbols.specs.Refusals.{fill_answer, filled};
 ghost use Rattle.symbols.specs.Symbols.{letter, text as written};
+ghost use Rattle.rows.specs.Rows.{items};
 ghost use Rattle.rules.specs.Words.{drawn};
 ghost use Rattle.drawings.specs.Drawings.{crossings as drawing};
 ghost use Rattle.words.specs.Held.{symbols_of, draws_same, draws_same_laws};
 
 use crate::Word;
 use drawings::Drawing;
+use rows::Row;
+use std::fmt;
 use symbols::{Crossing, Refusal, Symbol, fill};
 
 // The character of a symbol, as a byte.
 fn letter_of(s: Symbol) -> u8
     ensures { result ≡ letter s }
 {
-    s.to_char() as u8
+    char::from(s) as u8
 }
 
-// Writes the characters of symbols to the front of memory.
-fn write_letters(symbols: &[Symbol], out: &mut [u8])
-    requires { length symbols.now ≤ length out.old }
-    ensures { take (length symbols.now) out.new ≡ written symbols.now }
+// The characters of symbols.
+fn letters_of(symbols: &[Symbol]) -> Row<u8, 64>
+    requires { length symbols.now ≤ 64 }
+    ensures { items result ≡ written symbols.now }
 {
-    for (i, s) in symbols.iter().enumerate() {
-        out[i] = letter_of(*s);
+    let mut letters = Row::new(0);
+    for s in symbols {
+        let _ = letters.push(letter_of(*s));
     }
-}
-
-// Whether two lists of symbols are the same.
-fn same_symbols(a: &[Symbol], b: &[Symbol]) -> bool
-    ensures { Decides result (a.now ≡ b.now) }
-{
-    if a.len() != b.len() {
-        return false;
-    }
-    for i in 0..a.len() {
-        if a[i] != b[i] {
-            return false;
-        }
-    }
-    true
+    letters
 }
 
 impl Word {
@@ -47,24 +37,21 @@ impl Word {
     pub fn symbols(&self) -> &[Symbol]
         ensures { result.now ≡ symbols_of self.now }
     {
-        &self.held[0..self.len]
+        self.symbols.as_slice()
     }
 
     // How many symbols the word has.
     pub fn len(&self) -> usize
         ensures { result ≡ length (symbols_of self.now) }
     {
-        self.symbols().len()
+        self.symbols.len()
     }
 
     // What the word draws.
     pub fn drawing(&self) -> Drawing
         ensures { drawing result ≡ drawn (symbols_of self.now) }
     {
-        match Drawing::read(self.symbols()) {
-            Ok(d) => d,
-            Err(_) => unreachable!(),
-        }
+        Drawing::read(self.symbols()).unwrap()
     }
 
     // How many crossings the word has.
@@ -79,10 +66,8 @@ impl Word {
         ensures answer { result ≡ fill_answer (written (symbols_of self.now)) out.old }
         ensures memory { out.new ≡ filled (written (symbols_of self.now)) out.old }
     {
-        let symbols = self.symbols();
-        let mut letters = [0u8; 64];
-        write_letters(symbols, &mut letters);
-        fill(&letters[0..symbols.len()], out)
+        let letters = letters_of(self.symbols());
+        fill(letters.as_slice(), out)
     }
 
     // Reads the word back: its crossings as records, to the front of memory; tells how many. A group's number is its first
@@ -105,6 +90,18 @@ impl PartialEq for Word {
         ensures gives { result ≡ draws_same self.now other.now }
         ensures same { Decides result (drawn (symbols_of self.now) ≡ drawn (symbols_of other.now)) }
     {
-        same_symbols(self.symbols(), other.symbols())
+        self.symbols() == other.symbols()
+    }
+}
+
+// A word is printed as its text.
+impl fmt::Display for Word {
+    ghost output = { λ w. Some (written (symbols_of w)) };
+
+    fn fmt<W: fmt::Write>(&self, f: &mut fmt::Formatter<W>) -> fmt::Result {
+        for s in self.symbols() {
+            write!(f, "{s}")?;
+        }
+        Ok(())
     }
 }

@@ -1,4 +1,4 @@
-use Rattle.calls.specs.Kept.{plain_kept}
+use Rattle.stores.specs.Sources.{plain_kept}
 use Rattle.calls.proofs.Single.{made_built}
 use Rattle.calls.proofs.pixels.build.Goals as goal
 

@@ -1,5 +1,5 @@
 use Rattle.records.specs.Source.{source_told}
-use Rattle.calls.specs.Kept.{plain_kept}
+use Rattle.stores.specs.Sources.{plain_kept}
 use Rattle.calls.proofs.Loading.{blank_now, fits_now}
 use Rattle.calls.proofs.whole.copy_all.Goals as goal
 

@@ -1,14 +1,9 @@
 use Rattle.std.proofs.Common.{◌*◌, [], replicate, refl, arith}
 use Rattle.std.proofs.lemmas.List.{length-replicate}
 use Rattle.rules.specs.Words.{Drawing}
-use Rattle.calls.specs.Kept.{plain_kept}
-use Rattle.calls.proofs.Loading.{redraw_begins, empty_more, redraw_all}
+use Rattle.stores.specs.Sources.{plain_kept}
+use Rattle.calls.proofs.Loading.{empty_more, redraw_all}
 use Rattle.calls.proofs.whole.empty_all.Goals as goal
-
-pub loop-pixel-init : goal.loop-pixel-init
-loop-pixel-init g c =
-    let first = plain_kept g.S.Source.told g.S.Store.longest g.S.Store.total c.args.store.now in
-    redraw_begins first (replicate (first.width * first.height) [])
 
 pub loop-pixel-preserved : goal.loop-pixel-preserved
 loop-pixel-preserved g c =

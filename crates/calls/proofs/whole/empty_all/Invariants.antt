@@ -1,5 +1,5 @@
 use Rattle.std.proofs.Common.{◌≡◌, ◌*◌, [], replicate}
-use Rattle.calls.specs.Kept.{plain_kept}
+use Rattle.stores.specs.Sources.{plain_kept}
 use Rattle.calls.proofs.Loading.{redrawn}
 use Rattle.calls.proofs.whole.empty_all.Given as goal
 

@@ -1,6 +1,6 @@
 use Rattle.std.proofs.Common.{sym}
 use Rattle.records.specs.Source.{source_told}
-use Rattle.calls.specs.Kept.{plain_kept}
+use Rattle.stores.specs.Sources.{plain_kept}
 use Rattle.calls.proofs.Loading.{accepted_fits}
 use Rattle.calls.proofs.whole.load.Goals as goal
 

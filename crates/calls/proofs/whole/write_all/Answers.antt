@@ -1,34 +1,27 @@
-use Rattle.std.proofs.Common.{◌*◌, ◌<◌, ◌∙◌, arith}
-use Rattle.stores.specs.Sources.{sheet_told, word_at}
+use Rattle.std.proofs.Common.{◌≤◌, ◌*◌, inl, inr, ap, ◌∙◌, arith}
+use Rattle.words.specs.Held.{symbols_of}
+use Rattle.plain.specs.Plain.{write, step}
+use Rattle.stores.specs.Sources.{plain_kept}
 use Rattle.records.specs.Told.{record_lawful}
 use Rattle.records.specs.Source.{source_told}
-use Rattle.calls.specs.Kept.{plain_kept}
-use Rattle.calls.proofs.Loading.{next_word, next_on, redraw_begins, redraw_all, same_pixels, new_length, old_length, write_more}
+use Rattle.records.specs.Left.{words_left}
+use Rattle.calls.proofs.Loading.{pass_more, pass_all, pass_none}
 use Rattle.calls.proofs.whole.write_all.Goals as goal
-
-pub loop-pixel-init : goal.loop-pixel-init
-loop-pixel-init g c = (
-  c.words-words.ensures.source,
-  c.words-words.ensures.pixel,
-  redraw_begins (plain_kept g.S.Source.told g.S.Store.longest g.S.Store.total c.args.store.now) (sheet_told (source_told c.args.source.now)).drawings,
-)
 
 pub loop-pixel-preserved : goal.loop-pixel-preserved
 loop-pixel-preserved g c =
     let first = plain_kept g.S.Source.told g.S.Store.longest g.S.Store.total c.args.store.now in
-    let now = plain_kept g.S.Source.told g.S.Store.longest g.S.Store.total c.loop-pixel.store in
     let src = c.args.source.now in
     let l = record_lawful src.width src.height src.runs.now src.symbols.now in
-    let t = source_told src in
-    let i = c.loop-pixel.pixel in
-    let words = c.loop-pixel.words in
+    let it = c.loop-pixel.pixel-iterator in
+    let h = c.in-Some.ensures.steps in
     let v = c.loop-pixel.invariant in
-    let w = c.write_next.ensures in
-    let h : i < first.width * first.height = omega (arith, c.pixel_count-pixel-end.ensures, c.loop-pixel-test.true) in (
-      w.source ∙ v.0,
-      next_on words.source src words.place.pixel i c.write_next.new.words.place.pixel v.0 v.1 (omega (arith, same_pixels first t l c.requires.fits c.requires.blank)) w.pixel,
-      write_more first t l c.requires.fits c.requires.blank now (plain_kept g.S.Source.told g.S.Store.longest g.S.Store.total c.write_next.new.store) i (word_at (source_told words.source) words.place.pixel) h v.2
-          (next_word words.source src words.place.pixel i v.0 v.1) w.after,
+    let now = plain_kept g.S.Source.told g.S.Store.longest g.S.Store.total c.loop-pixel.store in (
+      (tt, tt),
+      tt,
+      h.0.0 ∙ v.2,
+      pass_more first (source_told src) l c.requires.fits c.requires.blank now _ (words_left it.b) (words_left c.next.new.self.b) (symbols_of c.in-Some.word) it.a.start c.in-Some.pixel c.next.new.self.a.start
+          (omega arith) h.0.1.1 h.0.1.2 h.1 (c.write.ensures.after ∙ ap (λ w. step now (write c.in-Some.pixel w)) c.symbols.ensures) v.3,
     )
 
 pub returns : goal.returns
@@ -36,8 +29,12 @@ returns g c =
     let first = plain_kept g.S.Source.told g.S.Store.longest g.S.Store.total c.args.store.now in
     let src = c.args.source.now in
     let l = record_lawful src.width src.height src.runs.now src.symbols.now in
-    let t = source_told src in
-    redraw_all first (plain_kept g.S.Source.told g.S.Store.longest g.S.Store.total c.loop-pixel.store) (sheet_told t).drawings c.loop-pixel.pixel
-    (omega (arith, new_length first t l c.requires.fits c.requires.blank, c.pixel_count-pixel-end.ensures, c.loop-pixel-test.false))
-    (omega (arith, old_length first t l c.requires.fits c.requires.blank, c.pixel_count-pixel-end.ensures, c.loop-pixel-test.false))
-    c.loop-pixel.invariant.2
+    let it = c.loop-pixel.pixel-iterator in
+    let v = c.loop-pixel.invariant in
+    let now = plain_kept g.S.Source.told g.S.Store.longest g.S.Store.total c.loop-pixel.store in
+    let end : first.width * first.height ≤ it.a.start =
+    elim c.in-None.ensures.steps [
+      | inl x ↦ let e = x.1 in omega arith
+      | inr x ↦ pass_none first (source_told src) l c.requires.fits c.requires.blank now (words_left it.b) it.a.start x.1.0 v.3
+    ] in
+    pass_all first (source_told src) l c.requires.fits c.requires.blank now (words_left it.b) it.a.start end v.3

@@ -5,7 +5,7 @@ use Rattle.checks.proofs.numbers.vertices_in.Goals.{then-begins_vertex, else-beg
 
 pub loop-i-preserved : goal.loop-i-preserved
 loop-i-preserved c =
-    let d = c.crossings-records.result.now in
+    let d = c.crossings-crossing-items.result.now in
     elim c.if-begins_vertex.branch [
       | then-begins_vertex w ↦
           (let e = vertex_yes d c.loop-i.i _ c.loop-i-test.true w.if-begins_vertex.ensures in

@@ -6,4 +6,4 @@ use Rattle.checks.proofs.Numbering.{kept_from}
 use Rattle.checks.proofs.numbers.vertices_in.Given as goal
 
 abbrev pub invariant-loop-i : goal.invariant-loop-i
-invariant-loop-i l = (l.n + kept_from (λ i. begins_vertex (at l.records i) i) (length l.records) l.i ≡ vertices l.records) × (l.n ≤ l.i)
+invariant-loop-i l = (l.n + kept_from (λ i. begins_vertex (at l.crossing-items i) i) (length l.crossing-items) l.i ≡ vertices l.crossing-items) × (l.n ≤ l.i)

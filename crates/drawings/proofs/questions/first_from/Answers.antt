@@ -1,12 +1,13 @@
-use Rattle.std.proofs.Common.{length, sym, ◌∙◌, arith}
-use Rattle.rules.specs.Crossings.{group_at}
+use Rattle.std.proofs.Common.{Some, None}
+use Rattle.drawings.proofs.Lasts.{found_from, to_the_end}
 use Rattle.drawings.proofs.questions.first_from.Goals as goal
-use Rattle.rules.proofs.Turns.{soonest_here, soonest_on}
 
-pub returns-then-table-j : goal.returns-then-table-j
-returns-then-table-j c =
-    sym (soonest_here (group_at c.args.table.now) c.args.g c.args.z (length c.args.table.now) c.loop-j.j (omega arith) c.if-table-j.true) ∙ c.loop-j.invariant
+pub returns-in_default : goal.returns-in_default
+returns-in_default c =
+    let h = rw (to_the_end c.args.table.now c.args.from) at c.in_default.ensures in
+    found_from c.args.table.now c.args.g c.args.z c.args.from None c.requires h
 
-pub loop-j-preserved : goal.loop-j-preserved
-loop-j-preserved c =
-    sym (soonest_on (group_at c.args.table.now) c.args.g c.args.z (length c.args.table.now) c.loop-j.j (omega arith) c.if-table-j.false) ∙ c.loop-j.invariant
+pub returns : goal.returns
+returns c =
+    let h = rw (to_the_end c.args.table.now c.args.from) at c.in-Some.ensures in
+    found_from c.args.table.now c.args.g c.args.z c.args.from (Some c.in-Some.n) c.requires h

@@ -1,6 +1,8 @@
-use Rattle.std.proofs.Common.{ℕ, ltb, sym, ap, ◌∙◌}
-use Rattle.recorder.proofs.Shown.{mark_at}
+use Rattle.std.proofs.Common.{sym, ◌∙◌}
+use Rattle.recorder.proofs.Shown.{mark_at, seen}
 use Rattle.recorder.proofs.words.is_shown.Goals as goal
 
 pub returns : goal.returns
-returns g c = ap (λ (n : ℕ). ltb 0 n) c.shown_len.ensures.is ∙ sym (mark_at (g.S.Source.told c.args.source.now) c.args.pixel)
+returns g c =
+    let t = g.S.Source.told c.args.source.now in
+    c.is_some.ensures ∙ seen t c.args.pixel c.shown_word.result c.shown_word.ensures ∙ sym (mark_at t c.args.pixel)

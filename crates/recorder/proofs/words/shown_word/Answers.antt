@@ -1,20 +1,21 @@
-use Rattle.recorder.proofs.Shown.{held_some, held_blank, held_none}
+use Rattle.std.proofs.Common.{◌*◌, ◌<◌, sym, ap, ◌∙◌, arith}
+use Rattle.rows.specs.Rows.{items}
+use Rattle.stores.specs.Sources.{word_at}
+use Rattle.recorder.proofs.Shown.{shown_long, shown_blank}
 use Rattle.recorder.proofs.words.shown_word.Goals as goal
-
-pub returns-in_default : goal.returns-in_default
-returns-in_default g c =
-    let s = c.args.source.now in
-    let h = held_none (g.S.Source.told s) (g.S.Source.lawful s) c.args.pixel c.from.result c.from.ensures c.args.held.now c.requires c.in_default.field-0 c.word.new.out c.in_default.ensures.answer in
-    record { len = h.len; word = h.word; most = h.most }
 
 pub returns-then-is_blank : goal.returns-then-is_blank
 returns-then-is_blank g c =
     let s = c.args.source.now in
-    let h = held_blank (g.S.Source.told s) (g.S.Source.lawful s) c.args.pixel c.from.result c.from.ensures c.args.held.now c.requires c.in-Ok.n c.word.new.out c.in-Ok.ensures.answer c.if-is_blank.ensures in
-    record { len = h.len; word = h.word; most = h.most }
+    let t = g.S.Source.told s in
+    let w = c.in_ok-word.ensures in
+    let there : c.args.pixel < t.width * t.height = omega (arith, w.0, c.from.ensures) in
+    shown_blank t (g.S.Source.lawful s) c.args.pixel (items c.in_ok-word.word) there (w.1 ∙ ap (word_at t) c.from.ensures) (sym c.len.ensures.is ∙ c.if-is_blank.ensures)
 
 pub returns : goal.returns
 returns g c =
     let s = c.args.source.now in
-    let h = held_some (g.S.Source.told s) (g.S.Source.lawful s) c.args.pixel c.from.result c.from.ensures c.args.held.now c.requires c.in-Ok.n c.word.new.out c.in-Ok.ensures.answer c.in-Ok.ensures.memory c.if-is_blank.ensures in
-    record { len = h.len; word = h.word; most = h.most }
+    let t = g.S.Source.told s in
+    let w = c.in_ok-word.ensures in
+    let there : c.args.pixel < t.width * t.height = omega (arith, w.0, c.from.ensures) in
+    shown_long t (g.S.Source.lawful s) c.args.pixel (items c.in_ok-word.word) there (w.1 ∙ ap (word_at t) c.from.ensures) (λ e. c.if-is_blank.ensures (c.len.ensures.is ∙ e))

@@ -1,4 +1,4 @@
-use Rattle.std.proofs.Common.{◌≡◌, ℕ, ◌-◌, ◌*◌, List, take, Option, sym, refl, ap, ◌∙◌, arith}
+use Rattle.std.proofs.Common.{◌≡◌, ℕ, ◌*◌, ◌<◌, List, Option, sym, refl, ap, ◌∙◌}
 use Rattle.codec.specs.Bits.{bits_of}
 use Rattle.codec.specs.Reading.{and_then}
 use Rattle.symbols.specs.declared.symbols.Symbol.{Symbol}
@@ -16,25 +16,25 @@ fetched n p runs symbols o e = sym (ap or_empty_word e)
 pub returns-in-Some : goal.returns-in-Some
 returns-in-Some c =
     let s = c.args.self.now in
-    let w = c.side_of-width.result in
-    let h = c.side_of-height.result in
+    let w = c.size-size.result.width in
+    let h = c.size-size.result.height in
     let p = c.args.pixel in
-    let n = c.in-Some.n in
-    let z : n - 0 ≡ n = omega arith in
-    let t = told_word s.width s.height s.runs.now s.symbols.now w h p c.side_of-width.ensures.is c.side_of-height.ensures.is (c.if-not-has_pixel.ensures.0 refl) in
-    let a = asked_word (record_told s.width s.height s.runs.now s.symbols.now) p c.args.out.now (take (n - 0) c.fetch.new.held) c.fill.result c.fill.new.memory t.0
-    (ap (λ (m : ℕ). take m c.fetch.new.held) z ∙ fetched (w * h) p s.runs.now s.symbols.now _ c.in-Some.ensures.1 ∙ t.1)
+    let there : p < w * h = c.if-not-has.ensures.0 refl in
+    let t = told_word s.width s.height s.runs.now s.symbols.now w h p c.size-size.ensures.width c.size-size.ensures.height there in
+    let a = asked_word (record_told s.width s.height s.runs.now s.symbols.now) p c.args.out.now _ c.fill.result c.fill.new.memory t.0
+    (c.as_slice.ensures ∙ fetched (w * h) p s.runs.now s.symbols.now _ c.in-Some.ensures ∙ t.1)
     c.fill.ensures.answer c.fill.ensures.memory in
     record { answer = a.answer; memory = a.memory }
 
 pub returns-in-None : goal.returns-in-None
 returns-in-None c =
     let s = c.args.self.now in
-    let w = c.side_of-width.result in
-    let h = c.side_of-height.result in
+    let w = c.size-size.result.width in
+    let h = c.size-size.result.height in
     let p = c.args.pixel in
-    let t = told_word s.width s.height s.runs.now s.symbols.now w h p c.side_of-width.ensures.is c.side_of-height.ensures.is (c.if-not-has_pixel.ensures.0 refl) in
+    let there : p < w * h = c.if-not-has.ensures.0 refl in
+    let t = told_word s.width s.height s.runs.now s.symbols.now w h p c.size-size.ensures.width c.size-size.ensures.height there in
     let a = asked_word (record_told s.width s.height s.runs.now s.symbols.now) p c.args.out.now _ c.fill-in-None.result c.fill-in-None.new.memory t.0
-    (fetched (w * h) p s.runs.now s.symbols.now _ c.in-None.ensures ∙ t.1)
+    (c.empty_word.ensures ∙ fetched (w * h) p s.runs.now s.symbols.now _ c.in-None.ensures ∙ t.1)
     c.fill-in-None.ensures.answer c.fill-in-None.ensures.memory in
     record { answer = a.answer; memory = a.memory }

@@ -9,16 +9,16 @@ pub slice_bounds-copy_word-end : goal.slice_bounds-copy_word-end
 slice_bounds-copy_word-end c =
     let s = c.args.self.now in
     let h : c.args.pixel * s.slot + s.slot ≤ length c.deref.result.now =
-    omega (arith, row_fits c.args.pixel (s.width * s.height) s.slot (c.if-not-has_pixel.ensures.0 refl), s.sound.2, c.deref.ensures.len, s.memory.ok.0) in
+    omega (arith, row_fits c.args.pixel (s.size.width * s.size.height) s.slot (c.if-not-has.ensures.0 refl), s.sound.2, c.deref.ensures.len, s.memory.ok.0) in
     search rules
 
 pub returns : goal.returns
 returns c =
     let s = c.args.self.now in
     let p : ℕ = c.args.pixel in
-    let k : ℕ = s.width * s.height in
-    let b : p < k = c.if-not-has_pixel.ensures.0 refl in
-    let a = asked_word (slots_told s.width s.height s.slot s.memory.items) p c.args.out.now _ c.copy_word.result c.copy_word.new.out b
+    let k : ℕ = s.size.width * s.size.height in
+    let b : p < k = c.if-not-has.ensures.0 refl in
+    let a = asked_word (slots_told s.size.width s.size.height s.slot s.memory.items) p c.args.out.now _ c.copy_word.result c.copy_word.new.out b
     (slot_lent s.slot p s.memory.items c.deref.result.now c.deref.ensures.value ∙ sym (word_there s.slot k s.memory.items p b))
     c.copy_word.ensures.answer c.copy_word.ensures.memory in
     record { answer = a.answer; memory = a.memory }

@@ -12,7 +12,7 @@ invariant_of-result c =
     let n = c.args.width * c.args.height in
     let o : Opens c.args.width c.args.height 64 c.len.result = c.if-not-opens.ensures.0 refl in
     let b = blank_cuts n _ (drop (4 * n) c.deref_mut.result.now) (refilled m.len m.items c.blank_out.new.bytes (omega (arith, c.deref_mut.ensures.len, c.blank_out.auto)) ∙ c.blank_out.ensures
-    ∙ ap (λ (x : ℕ). filled (replicate (4 * x) 0) c.deref_mut.result.now) c.pixels_in-n.ensures ∙ blank_front (4 * n) c.deref_mut.result.now (omega (arith, o.least_total, c.len.ensures, c.deref_mut.ensures.len))) in
+    ∙ ap (λ (x : ℕ). filled (replicate (4 * x) 0) c.deref_mut.result.now) c.pixels.ensures ∙ blank_front (4 * n) c.deref_mut.result.now (omega (arith, o.least_total, c.len.ensures, c.deref_mut.ensures.len))) in
     record { sides = (o.some_width, o.most_width, o.some_height, o.most_height, omega arith); each = b.each }
 
 pub returns : goal.returns
@@ -21,7 +21,7 @@ returns c =
     let n = c.args.width * c.args.height in
     let o : Opens c.args.width c.args.height 64 c.len.result = c.if-not-opens.ensures.0 refl in
     let b = blank_cuts n _ (drop (4 * n) c.deref_mut.result.now) (refilled m.len m.items c.blank_out.new.bytes (omega (arith, c.deref_mut.ensures.len, c.blank_out.auto)) ∙ c.blank_out.ensures
-    ∙ ap (λ (x : ℕ). filled (replicate (4 * x) 0) c.deref_mut.result.now) c.pixels_in-n.ensures ∙ blank_front (4 * n) c.deref_mut.result.now (omega (arith, o.least_total, c.len.ensures, c.deref_mut.ensures.len))) in (
+    ∙ ap (λ (x : ℕ). filled (replicate (4 * x) 0) c.deref_mut.result.now) c.pixels.ensures ∙ blank_front (4 * n) c.deref_mut.result.now (omega (arith, o.least_total, c.len.ensures, c.deref_mut.ensures.len))) in (
       record {
         some_width = o.some_width;
         most_width = o.most_width;

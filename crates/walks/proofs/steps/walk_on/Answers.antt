@@ -1,20 +1,22 @@
-use Rattle.std.proofs.Common.{◌≡◌, ℕ, subst, arith}
+use Rattle.std.proofs.Common.{◌≡◌, ℕ, sym, ◌∙◌, subst, arith}
 use Rattle.stores.specs.Sources.{sheet_told}
-use Rattle.walks.proofs.Going.{Gone, gone_none, gone_more, gone_stop, gone_all}
+use Rattle.walks.proofs.Going.{Gone, accepted, refused, gone_none, gone_more, gone_stop, gone_all}
 use Rattle.walks.proofs.steps.walk_on.Goals as goal
 
 pub loop-made-init : goal.loop-made-init
 loop-made-init g c = gone_none (sheet_told (g.S.Source.told c.args.source.now)) c.args.n c.args.walk.now
 
-pub returns-in-Err : goal.returns-in-Err
-returns-in-Err g c =
+pub returns-then-is_err : goal.returns-then-is_err
+returns-then-is_err g c =
     let s = sheet_told (g.S.Source.told c.args.source.now) in
-    let r = gone_stop s c.args.n c.args.walk.now c.loop-made.made c.loop-made.walk c.loop-made-test.true c.loop-made.invariant _ c.step.new.self c.in-Err.ensures.answer c.step.ensures.after in
+    let f = refused c.step.result (sym c.if-is_err.ensures.value) in
+    let r = gone_stop s c.args.n c.args.walk.now c.loop-made.made c.loop-made.walk c.loop-made-test.true c.loop-made.invariant f.0 c.step.new.self (f.1 ∙ c.step.ensures.answer) c.step.ensures.after in
     record { made = r.0; after = r.1; onward = r.2.onward_is; counted = r.2.counted; started = r.2.started }
 
 pub loop-made-preserved : goal.loop-made-preserved
 loop-made-preserved g c =
-    gone_more (sheet_told (g.S.Source.told c.args.source.now)) c.args.n c.args.walk.now c.loop-made.made c.loop-made.walk c.loop-made-test.true c.loop-made.invariant c.step.new.self c.in_default.ensures.answer c.step.ensures.after
+    gone_more (sheet_told (g.S.Source.told c.args.source.now)) c.args.n c.args.walk.now c.loop-made.made c.loop-made.walk c.loop-made-test.true c.loop-made.invariant c.step.new.self
+    (accepted c.step.result (sym c.if-is_err.ensures.value) ∙ c.step.ensures.answer) c.step.ensures.after
 
 pub returns : goal.returns
 returns g c =

@@ -1,5 +1,6 @@
-use Rattle.words.proofs.Holding.{Spelling}
+use Rattle.rows.specs.Rows.{items}
+use Rattle.words.proofs.Spelling.{Spelling}
 use Rattle.words.proofs.making.spell.Given as goal
 
-abbrev pub invariant-loop-i : goal.invariant-loop-i
-invariant-loop-i l = Spelling l.text l.i l.out
+abbrev pub invariant-loop-b : goal.invariant-loop-b
+invariant-loop-b l = Spelling l.text l.b-index (items l.symbols)

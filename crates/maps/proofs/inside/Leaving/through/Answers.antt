@@ -1,0 +1,12 @@
+use Rattle.std.proofs.Common.{sym, ap, ◌∙◌, arith}
+use Rattle.drawings.specs.Drawings.{crossings, place_code}
+use Rattle.maps.proofs.Turning.{place_low, place_there}
+use Rattle.maps.proofs.inside.Leaving.through.Goals as goal
+
+pub overflow_cast-result : goal.overflow_cast-result
+overflow_cast-result c =
+    let d = c.args.self.now.drawing in
+    omega (arith, d.within, place_low (crossings d) c.args.crossing _ _ (ap place_code (sym c.unwrap-road.ensures) ∙ c.place_of.ensures))
+
+pub invariant_of-result : goal.invariant_of-result
+invariant_of-result c = record { there = place_there (crossings c.args.self.now.drawing) c.args.crossing _ _ (ap place_code (sym c.unwrap-road.ensures) ∙ c.place_of.ensures) }

@@ -1,6 +1,0 @@
-use Rattle.drawings.specs.Drawings.{crossings}
-use Rattle.maps.proofs.Turning.{enters_in}
-use Rattle.maps.proofs.inside.turn_on.Goals as goal
-
-pub leaving-requires : goal.leaving-requires
-leaving-requires c = enters_in (crossings c.args.drawing.now) c.crossing_of.result c.in-Some.crossing c.in-Some.ensures

@@ -1,0 +1,7 @@
+-- Rows: lists in an array.
+--   items: what is in a row
+use Rattle.std.specs.Prelude.{ℕ, List, take}
+use Rattle.rows.specs.declared.row.Row.{Row}
+
+abbrev pub items : {T : Type 0} {N : ℕ} → Row T N → List T
+items r = take r.len r.cells
