@@ -10,7 +10,7 @@ use model::Dart;
 use records::RecordSource;
 use symbols::{Refusal, Road};
 
-// The road with a code of two bits.
+// The road with a code of two bits. C has roads, darts and refusals as numbers alone.
 fn road_of(code: u32) -> Road
     ensures { result ≡ road_in code }
 {
@@ -36,7 +36,7 @@ fn code_of(dart: Dart) -> i32
     dart.pixel as i32 * 256 + i32::from(u8::from(dart.road)) * 64 + i32::from(dart.place)
 }
 
-// The number of a refusal, with its sign turned.
+// The number of a refusal, with its sign turned: so C tells it from the code of a dart.
 fn refused(refusal: Refusal) -> i32
     ensures { result ≡ neg_ℤ (pos (number refusal)) }
 {

@@ -25,6 +25,7 @@ fn push_crossings(out: &mut String, d: &Drawing) -> Result<(), AllocError> {
 }
 
 fn push_steps(out: &mut String, d: &Drawing) -> Result<(), AllocError> {
+    // numbers of crossings, which the drawing is asked with
     for i in 0..d.len() {
         let Some(left) = d.leaves_at(i) else {
             continue;
@@ -87,6 +88,8 @@ fn tell_case(heap: Global, line: &str) -> Result<String, AllocError> {
     Ok(out)
 }
 
+// Answers each line. It stands in each program that runs cases: shared, it would be a public function that promises nothing,
+// since no contract says what is printed.
 fn run(rt: &HostRuntime) -> anyhow::Result<()> {
     for line in BufReader::new(rt.alloc(), rt.stdin())?.lines(rt.alloc()) {
         let line = line?;

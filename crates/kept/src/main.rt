@@ -43,6 +43,7 @@ fn tell_write<S: Store>(
 
 // A pixel's word, or the number of its refusal.
 fn tell_word<S: Source>(out: &mut String, store: &S, pixel: u32) -> Result<(), AllocError> {
+    // a store copies a pixel's word into memory that it is lent
     let mut room = [Symbol::DeadEnd; 64];
     out.push(' ')?;
     match store.word(pixel, &mut room) {
@@ -74,6 +75,7 @@ fn tell_store<O: Opens>(
     }
     out.push('|')?;
     let last = u32::from(store.width()) * u32::from(store.height());
+    // numbers, not an index: the pixel behind the last is asked too
     for pixel in 0..=last {
         tell_word(out, &store, pixel)?;
     }
@@ -156,6 +158,8 @@ fn tell_case(heap: Global, line: &str) -> Result<String, AllocError> {
     Ok(out)
 }
 
+// Answers each line. It stands in each program that runs cases: shared, it would be a public function that promises nothing,
+// since no contract says what is printed.
 fn run(rt: &HostRuntime) -> anyhow::Result<()> {
     for line in BufReader::new(rt.alloc(), rt.stdin())?.lines(rt.alloc()) {
         let line = line?;

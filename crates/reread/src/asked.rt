@@ -50,6 +50,7 @@ fn tell_road<S: Source>(
     pixel: u32,
     road: Road,
 ) -> Result<(), AllocError> {
+    // numbers, not an index: it ends at the first place that is no dart
     for place in 0..64 {
         let dart = Dart { pixel, road, place };
         out.push_str(" |")?;
@@ -78,7 +79,8 @@ pub fn tell_darts<S: Source>(out: &mut String, source: &S) -> Result<(), AllocEr
         }
         Err(refusal) => tell_refusal(out, refusal)?,
     }
-    let last = source.width() as u32 * source.height() as u32;
+    let last = source.size().pixels() as u32;
+    // numbers, not an index: the pixel behind the last is asked too
     for pixel in 0..=last {
         for road in Road::ALL {
             tell_road(out, source, pixel, road)?;

@@ -36,6 +36,7 @@ fn bytes_of(heap: Global, line: &str) -> Result<Vec<u8>, AllocError> {
 
 // A pixel's word, or the number of its refusal.
 fn tell_word<S: Source>(out: &mut String, source: &S, pixel: u32) -> Result<(), AllocError> {
+    // a source copies a pixel's word into memory that it is lent
     let mut room = [Symbol::DeadEnd; 64];
     out.push(' ')?;
     match source.word(pixel, &mut room) {
@@ -86,9 +87,10 @@ fn tell_case(heap: Global, line: &str) -> Result<String, AllocError> {
     let Ok(source) = RecordSource::open(&bytes) else {
         return Ok(out);
     };
-    let (width, height) = (source.width(), source.height());
-    write!(out, " {width} {height}")?;
-    let last = width as u32 * height as u32;
+    let size = source.size();
+    write!(out, " {} {}", size.width, size.height)?;
+    let last = size.pixels() as u32;
+    // numbers, not an index: the pixel behind the last is asked too
     for pixel in 0..=last {
         tell_word(&mut out, &source, pixel)?;
     }
@@ -97,6 +99,8 @@ fn tell_case(heap: Global, line: &str) -> Result<String, AllocError> {
     Ok(out)
 }
 
+// Answers each line. It stands in each program that runs cases: shared, it would be a public function that promises nothing,
+// since no contract says what is printed.
 fn run(rt: &HostRuntime) -> anyhow::Result<()> {
     for line in BufReader::new(rt.alloc(), rt.stdin())?.lines(rt.alloc()) {
         let line = line?;
