@@ -1,18 +1,15 @@
--- The darts of a pixel, put one behind another.
+-- The darts of a pixel, one after another.
 --   from_more: one more number of those from one on
---   on_road, on_place: what is to come from a road on; from a place of a road on
---   Filled: what is there and what is to come from a place on make the darts of a pixel
---   filled_room: there is room for one more
---   filled_more: one more is there
-use Rattle.std.proofs.Common.{◌≡◌, ℕ, suc, ◌+◌, ◌-◌, ◌<◌, List, [], ◌∷◌, ◌++◌, length, map, drop, sym, ap, ◌∙◌, arith, append_assoc, length-append}
-use Rattle.std.specs.List.{flat_map}
+--   leave_one, leave_past: a dart leaves; a road has no more places
+--   still_one, still_past: the same on the road with a number
+--   still_none: behind the last road nothing is left
+use Rattle.std.proofs.Common.{◌≡◌, ℕ, suc, ◌+◌, ◌-◌, ◌<◌, ◌≤◌, List, [], ◌∷◌, ◌++◌, length, map, drop, get_or, sym, refl, ap, ◌∙◌, arith}
+use Rattle.std.proofs.lemmas.List.{drop_more, drop_all}
 use Rattle.symbols.specs.declared.roads.Road.{Road}
+use Rattle.symbols.specs.declared.roads.Road.TheVariants.{West}
 use Rattle.symbols.specs.Symbols.{roads}
-use Rattle.model.specs.declared.darts.Dart.{Dart}
-use Rattle.model.specs.Sheets.{Sheet, Sheetly, pixels}
-use Rattle.model.specs.Darts.{dart, from_on, darts_on, darts_in}
-use Rattle.model.proofs.Inside.{drawing_in}
-use Rattle.walks.proofs.Homing.{in_few}
+use Rattle.model.specs.Darts.{dart, from_on}
+use Rattle.darts.specs.Rest.{leave}
 
 pub from_more : (i n : ℕ) → i < n → from_on i (n - i) ≡ i ∷ from_on (i + 1) (n - (i + 1))
 from_more i n h =
@@ -20,23 +17,27 @@ from_more i n h =
     let y : suc i ≡ i + 1 = omega arith in
     ap (from_on i) z ∙ ap (λ (x : ℕ). i ∷ from_on x (n - (i + 1))) y
 
-abbrev pub on_road : Sheet → ℕ → ℕ → List Dart
-on_road s p i = flat_map (darts_on s p) (drop i roads)
+module _ (p k : ℕ) (q : Road) (qs : List Road) (n : ℕ) (ns : List ℕ) where
+  leave_one : k < n → leave p k (q ∷ qs) (n ∷ ns) ≡ dart p q k ∷ leave p (k + 1) (q ∷ qs) (n ∷ ns)
+  leave_one h = ap (λ (x : List ℕ). map (dart p q) x ++ leave p 0 qs ns) (from_more k n h)
 
-abbrev pub on_place : Sheet → ℕ → ℕ → Road → ℕ → ℕ → List Dart
-on_place s p i q n k = map (dart p q) (from_on k (n - k)) ++ on_road s p (i + 1)
+  leave_past : n ≤ k → leave p k (q ∷ qs) (n ∷ ns) ≡ leave p 0 qs ns
+  leave_past h =
+      let z : n - k ≡ 0 = omega arith in
+      ap (λ (x : ℕ). map (dart p q) (from_on k x) ++ leave p 0 qs ns) z
 
-abbrev pub Filled : Sheet → ℕ → ℕ → Road → ℕ → ℕ → List Dart → Type 0
-Filled s p i q n k xs = xs ++ on_place s p i q n k ≡ darts_in s p
+module _ (p r k : ℕ) (ns : List ℕ) (h : r < 4) (l : length ns ≡ 4) where
+  roads_at : drop r roads ≡ get_or roads r West ∷ drop (r + 1) roads
+  roads_at = drop_more roads r West h
 
-module _ (s : Sheet) (p i : ℕ) (q : Road) (n k : ℕ) (h : k < n) (xs : List Dart) (e : Filled s p i q n k xs) where
-  one_comes : xs ++ (dart p q k ∷ on_place s p i q n (k + 1)) ≡ darts_in s p
-  one_comes = ap (λ (x : List ℕ). xs ++ (map (dart p q) x ++ on_road s p (i + 1))) (sym (from_more k n h)) ∙ e
+  counts_at : drop r ns ≡ get_or ns r 0 ∷ drop (r + 1) ns
+  counts_at = drop_more ns r 0 (omega arith)
 
-  pub filled_room : Sheetly s → p < pixels s → length xs < 60
-  filled_room l m =
-      let f = (drawing_in s l p m).0.few in
-      omega (arith, in_few s p, f, length-append xs (dart p q k ∷ on_place s p i q n (k + 1)), ap length one_comes)
+  pub still_one : k < get_or ns r 0 → leave p k (drop r roads) (drop r ns) ≡ dart p (get_or roads r West) k ∷ leave p (k + 1) (drop r roads) (drop r ns)
+  still_one m = rw roads_at (rw counts_at (leave_one p k (get_or roads r West) (drop (r + 1) roads) (get_or ns r 0) (drop (r + 1) ns) m))
 
-  pub filled_more : Filled s p i q n (k + 1) (xs ++ (dart p q k ∷ []))
-  filled_more = append_assoc xs (dart p q k ∷ []) (on_place s p i q n (k + 1)) ∙ one_comes
+  pub still_past : get_or ns r 0 ≤ k → leave p 0 (drop (r + 1) roads) (drop (r + 1) ns) ≡ leave p k (drop r roads) (drop r ns)
+  still_past m = rw roads_at (rw counts_at (sym (leave_past p k (get_or roads r West) (drop (r + 1) roads) (get_or ns r 0) (drop (r + 1) ns) m)))
+
+pub still_none : (p r k : ℕ) (ns : List ℕ) → 4 ≤ r → leave p k (drop r roads) (drop r ns) ≡ []
+still_none p r k ns h = rw (drop_all r roads h) refl

@@ -2,7 +2,10 @@
 --   there: there is an answer
 --   taken: it is what it is said to be
 --   next_there: next is a dart
-use Rattle.std.proofs.Common.{◌≡◌, true, Some, Ok, Err, Option, Result, refl, sym, ◌∙◌}
+--   found: where there is an answer, there is the dart, and the answer is what it is said to be
+--   told: the answer for a dart that there is
+use Rattle.std.proofs.Common.{◌≡◌, true, Some, Ok, Err, Option, Result, refl, sym, ap, ◌∙◌, inl, inr}
+use Rattle.std.proofs.lemmas.Bool.{cases_Bool}
 use Rattle.std.specs.Prelude.{IsSome, IfSome}
 use Rattle.std.specs.Result.{result_ok}
 use Rattle.symbols.specs.declared.refusals.Refusal.{Refusal}
@@ -26,3 +29,13 @@ taken s d x y r e h p =
 pub next_there : (s : Sheet) → Sheetly s → (d : Dart) (r : Result Dart Refusal) → r ≡ next s d → IfSome (result_ok r) (λ e. is_dart s e ≡ true)
 next_there s k d (Ok e) q = (landed s k d e (sym q)).1
 next_there s k d (Err f) q = tt
+
+pub found : {A : Type 0} (s : Sheet) (d : Dart) (x y : A) → Some y ≡ where_dart s d x → (is_dart s d ≡ true) × (y ≡ x)
+found s d x y e =
+    elim (cases_Bool (is_dart s d)) [
+      | inl h ↦ (h, taken s d x y (where_dart s d x) refl h e)
+      | inr h ↦ cc
+    ]
+
+pub told : {A : Type 0} (s : Sheet) (d : Dart) (x y : A) → is_dart s d ≡ true → y ≡ x → Some y ≡ where_dart s d x
+told s d x y h e = rw h (ap Some e)

@@ -1,6 +1,7 @@
 -- Walks of code on a sheet where no road fails.
 --   stroll_dart, stroll_short, stroll_more, stroll_length: along a sidewalk
 --   Ringing: so many steps from a dart on, none of which begins a sidewalk
+--   ringing_begun: a dart that begins a sidewalk is on no ring
 --   ringing_dart, ringing_more, ringing_less, ringing_yes, ringing_no: round a loop that may be a ring
 --   Rooting: so many steps from a dart on, none of which is smaller, and as many back
 --   rooting_start, rooting_more, rooting_less, rooting_yes, rooting_ahead, rooting_back: round a loop, both ways
@@ -68,6 +69,9 @@ module _ (s : Sheet) (k : Sheetly s) (free : NoRoadFails s) (h : Dart) (i : is_d
     stroll_length e b q z = going_length (circles s) law h mine n d g b (sym (z ∙ ap (leaves_vertex s) q))
 
   -- round a loop that may be a ring
+
+  pub ringing_begun : leaves_vertex s h ≡ true → on_ring s h ≡ false
+  ringing_begun b = ring_no (circles s) law h mine 0 b
 
   module _ (d : Dart) (r : Ringing s h d) where
     pub ringing_dart : is_dart s d ≡ true

@@ -8,7 +8,6 @@ ghost use Rattle.stores.specs.Sources.{sheet_told};
 ghost use Rattle.darts.specs.Rest.{where_dart, where_begun};
 
 use crate::Passable;
-use maps::is_dart;
 use model::Dart;
 use stores::Source;
 
@@ -56,8 +55,8 @@ impl<'a, S: Source> Passable<'a, S> {
     pub fn on_ring(&self, dart: Dart) -> Option<bool>
         ensures { result ≡ where_dart (sheet_told (S.told self.now.source.now)) dart (on_ring (sheet_told (S.told self.now.source.now)) dart) }
     {
-        if !is_dart(self.source, dart) {
-            return None;
+        if self.begins(dart)? {
+            return Some(false);
         }
         Some(self.comes_round(dart))
     }
@@ -66,10 +65,8 @@ impl<'a, S: Source> Passable<'a, S> {
     pub fn is_root(&self, dart: Dart) -> Option<bool>
         ensures { result ≡ where_dart (sheet_told (S.told self.now.source.now)) dart (same_dart (root (circles (sheet_told (S.told self.now.source.now))) dart_le dart) dart) }
     {
-        if !is_dart(self.source, dart) {
-            return None;
-        }
-        Some(self.is_least(dart))
+        let next = self.next(dart)?;
+        Some(self.is_least(dart, next))
     }
 
     // Next of a dart that there is.
@@ -130,12 +127,14 @@ impl<'a, S: Source> Passable<'a, S> {
         false
     }
 
-    // Whether no dart of a dart's loop is smaller. It goes both ways, so that a smaller one is found soon.
-    fn is_least(&self, dart: Dart) -> bool
-        requires { is_dart (sheet_told (S.told self.now.source.now)) dart ≡ true }
+    // Whether no dart of a dart's loop is smaller, where its next is known. It goes both ways, so that a smaller one is found
+    // soon.
+    fn is_least(&self, dart: Dart, next: Dart) -> bool
+        requires dart { is_dart (sheet_told (S.told self.now.source.now)) dart ≡ true }
+        requires next { next ≡ next_of (sheet_told (S.told self.now.source.now)) dart }
         ensures { result ≡ same_dart (root (circles (sheet_told (S.told self.now.source.now))) dart_le dart) dart }
     {
-        let mut ahead = self.ahead(dart);
+        let mut ahead = next;
         let mut back = self.behind(dart);
         while ahead != dart {
             if ahead < dart || back < dart {

@@ -2,6 +2,7 @@
 #![tactic(auto)]
 
 mod going;
+mod leaving;
 mod order;
 mod passable;
 mod pixels;

@@ -1,51 +1,23 @@
 // The darts of a source, in order.
-ghost use Rattle.std.specs.Prelude.{◌≡◌, ◌<◌, length};
+ghost use Rattle.std.specs.Prelude.{◌≡◌, length};
 ghost use Rattle.std.specs.Iterator.{at_most};
-ghost use Rattle.rows.specs.Rows.{items};
-ghost use Rattle.model.specs.Sheets.{pixels};
-ghost use Rattle.model.specs.Darts.{darts_in, darts};
+ghost use Rattle.model.specs.Darts.{darts};
 ghost use Rattle.stores.specs.Sources.{sheet_told};
 ghost use Rattle.darts.specs.Rest.{to_come, NextOf};
 
-use crate::pixels::{pixels_of, places};
-use maps::drawing_at;
+use crate::leaving::Leaving;
+use crate::pixels::pixels_of;
 use model::Dart;
-use rows::Row;
 use stores::Source;
-use symbols::Road;
 
 // The darts of a source that are to come.
 #[derive(Drop)]
 pub struct Darts<'a, S: Source> {
     source: &'a S,
     // those of the pixel before the next one
-    here: Row<Dart, 60>,
-    // how many of these are passed
-    passed: usize,
+    here: Leaving,
     // the next pixel
     pixel: u32,
-}
-
-// What stands where there is no dart yet.
-const NO_DART: Dart = Dart {
-    pixel: 0,
-    road: Road::West,
-    place: 0,
-};
-
-// The darts that leave a pixel.
-fn darts_in<S: Source>(source: &S, pixel: u32) -> Row<Dart, 60>
-    requires { pixel < pixels (sheet_told (S.told source.now)) }
-    ensures { items result ≡ darts_in (sheet_told (S.told source.now)) pixel }
-{
-    let drawing = drawing_at(source, pixel).unwrap();
-    let mut darts = Row::new(NO_DART);
-    for road in Road::ALL {
-        for place in 0..places(&drawing, road) {
-            darts.push(Dart { pixel, road, place }).unwrap();
-        }
-    }
-    darts
 }
 
 impl<'a, S: Source> Darts<'a, S> {
@@ -55,8 +27,7 @@ impl<'a, S: Source> Darts<'a, S> {
     {
         Darts {
             source,
-            here: Row::new(NO_DART),
-            passed: 0,
+            here: Leaving::none(),
             pixel: 0,
         }
     }
@@ -70,16 +41,15 @@ impl<'a, S: Source> Iterator for Darts<'a, S> {
     ghost remaining = { λ d. at_most (length (to_come S.told d)) };
 
     fn next(&mut self) -> Option<Dart> {
-        while self.passed >= self.here.as_slice().len() {
+        loop {
+            if let Some(dart) = self.here.next() {
+                return Some(dart);
+            }
             if self.pixel >= pixels_of(self.source) {
                 return None;
             }
-            self.here = darts_in(self.source, self.pixel);
-            self.passed = 0;
+            self.here = Leaving::of(self.source, self.pixel);
             self.pixel += 1;
         }
-        let dart = self.here.as_slice()[self.passed];
-        self.passed += 1;
-        Some(dart)
     }
 }

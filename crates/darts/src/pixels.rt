@@ -17,10 +17,18 @@ pub fn pixels_of<S: Source>(source: &S) -> u32
     u32::from(source.width()) * u32::from(source.height())
 }
 
+// How many crossings a road has, at most 60.
+fn few_on(drawing: &Drawing, road: Road) -> usize
+    ensures is { result ≡ count_on (road_code road) (crossings drawing.now) }
+    ensures few { result ≤ 60 }
+{
+    drawing.count_on(road)
+}
+
 // How many places a road has.
 pub fn places(drawing: &Drawing, road: Road) -> u8
     ensures is { result ≡ count_on (road_code road) (crossings drawing.now) }
     ensures few { result ≤ 60 }
 {
-    drawing.count_on(road) as u8
+    few_on(drawing, road) as u8
 }

@@ -1,5 +1,5 @@
 // Reading the symbols of a word, a symbol at a time.
-ghost use Rattle.std.specs.Prelude.{◌≡◌, ℕ, ◌+◌, ◌<◌, ◌≤◌, false, length, Some, None, MatchOption};
+ghost use Rattle.std.specs.Prelude.{◌≡◌, ℕ, ◌+◌, ◌<◌, ◌≤◌, false, [], length, Some, None, MatchOption};
 ghost use Rattle.rows.specs.Rows.{items};
 ghost use Rattle.rules.specs.Words.{is_corner, corners, ends, shaped, drawing_of, judged};
 ghost use Rattle.drawings.specs.Reading.{Meeting, meets, open_marks};
@@ -8,13 +8,6 @@ ghost use Rattle.drawings.specs.Drawings.{draws, in_crossings};
 use crate::Drawing;
 use rows::Row;
 use symbols::{Crossing, Mark, Refusal, Symbol};
-
-// Stands where no crossing is yet.
-const BLANK: Crossing = Crossing {
-    road: 0,
-    group: 0,
-    vertex: false,
-};
 
 // What a crossing symbol does: the first crossing of its group, and whether that has a vertex.
 #[derive(Clone, Copy)]
@@ -103,13 +96,13 @@ fn meet(s: Symbol, marks: &mut Row<Mark, 64>, k: u16) -> Option<Met>
     }
 }
 
-// Reads symbols from left to right into crossings; nothing where they do not read through.
-fn read_crossings(symbols: &[Symbol]) -> Option<Row<Crossing, 64>>
-    requires { length symbols.now ≤ 64 }
-    ensures { MatchOption result (drawing_of symbols.now ≡ None) (λ r. drawing_of symbols.now ≡ Some (items r)) }
+// Reads symbols from left to right into a row of crossings; nothing where they do not read through. The row is lent, since
+// it would be moved twice on its way out.
+fn read_crossings(symbols: &[Symbol], crossings: &mut Row<Crossing, 64>) -> Option<()>
+    requires { (length symbols.now ≤ 64) × (items crossings.old ≡ []) }
+    ensures { MatchOption result (drawing_of symbols.now ≡ None) (λ _. drawing_of symbols.now ≡ Some (items crossings.new)) }
 {
-    let mut marks = Row::new(Mark::Split(0));
-    let mut crossings = Row::new(BLANK);
+    let mut marks = Row::over([Mark::Split(0); 64]);
     let mut road: u8 = 0;
     for s in symbols {
         if let Symbol::Corner = s {
@@ -126,7 +119,7 @@ fn read_crossings(symbols: &[Symbol]) -> Option<Row<Crossing, 64>>
     if !marks.is_empty() {
         return None;
     }
-    Some(crossings)
+    Some(())
 }
 
 impl Drawing {
@@ -137,7 +130,12 @@ impl Drawing {
         if !has_shape(symbols) {
             return Err(Refusal::NoWord);
         }
-        let crossings = read_crossings(symbols).ok_or(Refusal::Unlawful)?;
+        let mut crossings = Row::over([Crossing {
+            road: 0,
+            group: 0,
+            vertex: false,
+        }; 64]);
+        read_crossings(symbols, &mut crossings).ok_or(Refusal::Unlawful)?;
         Ok(Drawing { crossings })
     }
 }

@@ -40,34 +40,31 @@ impl Leaving {
     }
 
     // The dart that leaves the same pixel through another crossing.
-    fn through(&self, crossing: usize) -> Leaving
+    fn through(&self, crossing: usize) -> Dart
         requires { crossing < length (crossings self.now.drawing) }
-        ensures dart { result.dart ≡ leaving self.now.dart.pixel (crossings self.now.drawing) crossing }
-        ensures drawing { result.drawing ≡ self.now.drawing }
+        ensures is { result ≡ leaving self.now.dart.pixel (crossings self.now.drawing) crossing }
+        ensures there { result.place < count_on (road_code result.road) (crossings self.now.drawing) }
     {
         let (road, place) = self.drawing.place_of(crossing).unwrap();
-        Leaving {
-            dart: Dart {
-                pixel: self.dart.pixel,
-                road,
-                place: place as u8,
-            },
-            drawing: self.drawing,
+        Dart {
+            pixel: self.dart.pixel,
+            road,
+            place: place as u8,
         }
     }
 
     // From the dart's crossing to the one before it in its group.
-    pub(crate) fn turn_back(&self) -> Leaving
-        ensures dart { result.dart ≡ turn_in (crossings self.now.drawing) self.now.dart }
-        ensures drawing { result.drawing ≡ self.now.drawing }
+    pub(crate) fn turn_back(&self) -> Dart
+        ensures is { result ≡ turn_in (crossings self.now.drawing) self.now.dart }
+        ensures there { result.place < count_on (road_code result.road) (crossings self.now.drawing) }
     {
         self.through(self.drawing.leaves_at(self.crossing()).unwrap())
     }
 
     // From the dart's crossing to the one after it in its group.
-    pub(crate) fn turn_on(&self) -> Leaving
-        ensures dart { result.dart ≡ unturn_in (crossings self.now.drawing) self.now.dart }
-        ensures drawing { result.drawing ≡ self.now.drawing }
+    pub(crate) fn turn_on(&self) -> Dart
+        ensures is { result ≡ unturn_in (crossings self.now.drawing) self.now.dart }
+        ensures there { result.place < count_on (road_code result.road) (crossings self.now.drawing) }
     {
         self.through(self.drawing.enters_at(self.crossing()).unwrap())
     }

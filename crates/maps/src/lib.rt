@@ -9,7 +9,7 @@ ghost use Rattle.model.specs.Streets.{leaves_vertex};
 ghost use Rattle.stores.specs.Sources.{sheet_told};
 
 use model::Dart;
-use passing::{far_count, leaving, pass};
+use passing::{far_count, has_place, leaving, pass};
 use pixels::counts_fail;
 use stores::Source;
 use symbols::{Refusal, Road};
@@ -33,22 +33,23 @@ pub fn next<S: Source>(source: &S, dart: Dart) -> Result<Dart, Refusal>
     ensures { result ≡ next (sheet_told (S.told source.now)) dart }
 {
     let left = leaving(source, dart)?;
-    Ok(pass(source, &left)?.turn_back().dart)
+    Ok(pass(source, &left)?.turn_back())
 }
 
 // The dart whose next this one is.
 pub fn previous<S: Source>(source: &S, dart: Dart) -> Result<Dart, Refusal>
     ensures { result ≡ previous (sheet_told (S.told source.now)) dart }
 {
-    let left = leaving(source, dart)?;
-    Ok(pass(source, &left.turn_on())?.dart)
+    let mut left = leaving(source, dart)?;
+    left.dart = left.turn_on();
+    Ok(pass(source, &left)?.dart)
 }
 
 // Whether the sheet has a dart.
 pub fn is_dart<S: Source>(source: &S, dart: Dart) -> bool
     ensures { result ≡ is_dart (sheet_told (S.told source.now)) dart }
 {
-    leaving(source, dart).is_ok()
+    drawing_at(source, dart.pixel).is_some_and(|drawing| has_place(&drawing, dart))
 }
 
 // Whether a road fails, if there is such a pixel.

@@ -1,6 +1,8 @@
 // Passing the road of a dart.
-ghost use Rattle.std.specs.Prelude.{◌≡◌, ◌<◌, true, false, MatchOption, MatchResult};
+ghost use Rattle.std.specs.Prelude.{◌≡◌, ◌<◌, true, false, MatchOption, MatchResult, nat_lt};
 ghost use Rattle.symbols.specs.declared.refusals.Refusal.TheVariants.{NoDart, RoadFails};
+ghost use Rattle.symbols.specs.Symbols.{road_code};
+ghost use Rattle.rules.specs.Crossings.{count_on};
 ghost use Rattle.drawings.specs.Drawings.{crossings};
 ghost use Rattle.model.specs.Sheets.{pixels, drawing_at, on_rim, beyond, fails};
 ghost use Rattle.model.specs.Darts.{is_dart};
@@ -14,6 +16,13 @@ use model::Dart;
 use stores::Source;
 use symbols::{Refusal, Road};
 
+// Whether the road of a dart has so many places, in the drawing of its pixel.
+pub(crate) fn has_place(drawing: &Drawing, dart: Dart) -> bool
+    ensures { result ≡ nat_lt dart.place (count_on (road_code dart.road) (crossings drawing.now)) }
+{
+    usize::from(dart.place) < drawing.count_on(dart.road)
+}
+
 // A dart with the drawing of the pixel that it leaves; refused where there is no such dart.
 pub(crate) fn leaving<S: Source>(source: &S, dart: Dart) -> Result<Leaving, Refusal>
     ensures { MatchResult result
@@ -21,7 +30,7 @@ pub(crate) fn leaving<S: Source>(source: &S, dart: Dart) -> Result<Leaving, Refu
         (λ f. (f ≡ NoDart) × (is_dart (sheet_told (S.told source.now)) dart ≡ false)) }
 {
     let drawing = drawing_at(source, dart.pixel).ok_or(Refusal::NoDart)?;
-    if usize::from(dart.place) >= drawing.count_on(dart.road) {
+    if !has_place(&drawing, dart) {
         return Err(Refusal::NoDart);
     }
     Ok(Leaving { dart, drawing })
@@ -56,7 +65,10 @@ pub(crate) fn pass<S: Source>(source: &S, from: &Leaving) -> Result<Leaving, Ref
 {
     let Dart { pixel, road, place } = from.dart;
     let refused = Refusal::RoadFails { pixel, road };
-    let (beyond, drawing) = far_side(source, pixel, road).ok_or(refused)?;
+    // no `ok_or`: measured, it moves the drawing once more
+    let Some((beyond, drawing)) = far_side(source, pixel, road) else {
+        return Err(refused);
+    };
     let here = from.drawing.count_on(road);
     let entered = facing(road);
     if counts_fail(here, Some(drawing.count_on(entered))) {

@@ -27,7 +27,7 @@ fn corners_behind(symbol: Symbol, corners: u8) -> u8
 pub fn read_word(bytes: &[u8], from: u32) -> Option<Row<Symbol, 64>>
     ensures { MatchOption result (cut 64 4 (drop (3 * from) (bits_of bytes.now)) ≡ None) (λ w. CutOff bytes.now from (items w)) }
 {
-    let mut word = Row::new(Symbol::Corner);
+    let mut word = Row::over([Symbol::Corner; 64]);
     let mut corners: u8 = 4;
     while corners > 0 {
         let symbol = symbol_at(bytes, from as usize + word.len())?;

@@ -108,7 +108,9 @@ impl<'a> RecordSource<'a> {
 
     // The words in the order of their pixels, from the first one on.
     pub fn words(&self) -> Words<'a>
-        ensures { words_left result ≡ (source_told self.now).words }
+        ensures words { words_left result ≡ (source_told self.now).words }
+        ensures source { result.source ≡ self.now }
+        ensures pixel { result.place.pixel ≡ 0 }
     {
         first_words(*self)
     }

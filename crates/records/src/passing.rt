@@ -5,7 +5,6 @@ ghost use Rattle.rules.specs.Words.{lawful};
 ghost use Rattle.codec.specs.Bits.{bits_of};
 ghost use Rattle.codec.specs.Reading.{guard};
 ghost use Rattle.words.specs.Held.{symbols_of};
-ghost use Rattle.stores.specs.Sources.{empty_word};
 ghost use Rattle.records.specs.Rows.{runs_left};
 ghost use Rattle.records.specs.Behind.{word_behind};
 ghost use Rattle.records.specs.Told.{or_empty_word};
@@ -15,7 +14,6 @@ ghost use Rattle.records.specs.Left.{words_left};
 use crate::body::read_word;
 use crate::order::{Place, Words, entered};
 use crate::side_of;
-use stores::empty_word;
 use symbols::Symbol;
 use words::Word;
 
@@ -26,18 +24,11 @@ struct Passed {
     from: u32,
 }
 
-// The word `++++`.
-fn blank() -> Word
-    ensures { symbols_of result ≡ empty_word }
-{
-    Word::from_symbols(empty_word()).unwrap()
-}
-
 // The word of symbols; `++++` where they are not lawful.
 fn lawful_or_blank(symbols: &[Symbol]) -> Word
     ensures { symbols_of result ≡ or_empty_word (guard (lawful symbols.now) (Some symbols.now)) }
 {
-    Word::from_symbols(symbols).unwrap_or(blank())
+    Word::from_symbols(symbols).unwrap_or(Word::blank())
 }
 
 // Reads the word that begins at an index; `++++` in place of one that is wanting or not lawful.
@@ -53,7 +44,7 @@ fn pass_word(symbols: &[u8], from: u32) -> Passed
             from: from + word.len() as u32,
         },
         None => Passed {
-            word: blank(),
+            word: Word::blank(),
             from,
         },
     }
@@ -71,7 +62,7 @@ fn pass_pixel(symbols: &[u8], place: Place<'_>, end: u16) -> Passed
 {
     if place.inside == 0 {
         return Passed {
-            word: blank(),
+            word: Word::blank(),
             from: place.from,
         };
     }

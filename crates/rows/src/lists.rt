@@ -15,6 +15,13 @@ impl<T: Copy, const N: usize> Row<T, N> {
         }
     }
 
+    // An empty row over cells, whatever they hold. Of cells that are known where this is called no loop fills them.
+    pub fn over(cells: [T; N]) -> Row<T, N>
+        ensures { items result ≡ [] }
+    {
+        Row { cells, len: 0 }
+    }
+
     // The first so many cells of an array; none where there are not so many.
     pub fn front(cells: [T; N], len: usize) -> Option<Row<T, N>>
         ensures { MatchOption result (N < len) (λ r. items r ≡ take len cells) }
@@ -64,11 +71,12 @@ impl<T: Copy, const N: usize> Row<T, N> {
     pub fn push(&mut self, x: T) -> Option<()>
         ensures { MatchOption result ((length (items self.old) ≡ N) × (self.new ≡ self.old)) (λ _. items self.new ≡ items self.old ++ x ∷ []) }
     {
-        if self.len == N {
+        let len = self.len;
+        if len == N {
             return None;
         }
-        self.cells[self.len] = x;
-        self.len += 1;
+        self.cells[len] = x;
+        self.len = len + 1;
         Some(())
     }
 

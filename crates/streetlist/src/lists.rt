@@ -1,9 +1,9 @@
 // The lines of a street list: for each sidewalk, by first dart, its darts and next of the last one.
-ghost use Rattle.std.specs.Prelude.{◌≡◌, ◌+◌, ◌^◌, ◌<◌, ◌≤◌, true, [], ◌∷◌, ◌++◌};
+ghost use Rattle.std.specs.Prelude.{◌≡◌, ◌+◌, ◌^◌, ◌<◌, ◌≤◌, true};
 ghost use Rattle.std.specs.List.{flat_map};
 ghost use Rattle.orbits.specs.Orbits.{line};
-ghost use Rattle.model.specs.Darts.{is_dart, next_of};
-ghost use Rattle.model.specs.Streets.{leaves_vertex, circles, street_lines, item, line_text};
+ghost use Rattle.model.specs.Darts.{is_dart};
+ghost use Rattle.model.specs.Streets.{leaves_vertex, circles, street_lines, line_text};
 ghost use Rattle.stores.specs.Sources.{sheet_told};
 ghost use Rattle.streetlist.specs.Puts.{PutsTo};
 ghost use Rattle.streetlist.specs.Lists.{begun_line};
@@ -12,16 +12,6 @@ use crate::text::Text;
 use darts::{Darts, Passable};
 use model::Dart;
 use stores::Source;
-
-// Puts the arrow behind the last dart of a sidewalk.
-fn put_end<S: Source>(free: &Passable<S>, text: &mut Text, last: Dart)
-    requires dart { is_dart (sheet_told (S.told free.now.source.now)) last ≡ true }
-    requires early { text.old.at < 2 ^ 60 }
-    ensures puts { PutsTo (62 ∷ 32 ∷ (item (next_of (sheet_told (S.told free.now.source.now)) last) ++ 10 ∷ [])) text.old text.new }
-    ensures few { text.new.at ≤ text.old.at + 24 }
-{
-    text.put_arrow(free.next(last).unwrap());
-}
 
 // Puts the line of the sidewalk that a dart begins.
 fn put_line<S: Source>(free: &Passable<S>, text: &mut Text, dart: Dart)
@@ -36,7 +26,7 @@ fn put_line<S: Source>(free: &Passable<S>, text: &mut Text, dart: Dart)
         text.put_item(last);
         let ahead = free.next(last).unwrap();
         if free.begins(ahead).unwrap() {
-            return put_end(free, text, last);
+            return text.put_arrow(ahead);
         }
         last = ahead;
     }

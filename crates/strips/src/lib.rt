@@ -5,6 +5,8 @@
 ghost use Rattle.std.specs.Prelude.{◌≡◌, ◌+◌, ◌*◌, ◌<◌, ◌≤◌, length, drop, vec_len, Decides, MatchBool, MatchResult};
 ghost use Rattle.std.proofs.Math.Seq.{paste};
 ghost use Rattle.symbols.specs.declared.refusals.Refusal.TheVariants as refusals;
+ghost use Rattle.rules.specs.Words.{judged};
+ghost use Rattle.words.specs.Held.{in_symbols};
 ghost use Rattle.plain.specs.Plain.{Opens};
 ghost use Rattle.stores.specs.Sources.{fresh};
 ghost use Rattle.stores.specs.Bytes.{encoded};
@@ -75,6 +77,13 @@ impl Spot {
     {
         len <= room - self.at - self.tail
     }
+}
+
+// The word of symbols, or why they are none.
+fn lawful(symbols: &[Symbol]) -> Result<Word, Refusal>
+    ensures { in_symbols result ≡ judged symbols.now }
+{
+    Word::from_symbols(symbols)
 }
 
 // Moves n bytes.
@@ -175,7 +184,7 @@ impl Store for StripStore {
         if !self.size.has(pixel) {
             return Err(Refusal::NoPixel);
         }
-        Word::from_symbols(word)?;
+        lawful(word)?;
         let spot = Spot::find(&self.memory, self.size.pixels(), pixel as usize);
         if !spot.has_room(self.memory.len(), word.len()) {
             return Err(Refusal::OverTotal);

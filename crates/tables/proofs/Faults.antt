@@ -1,7 +1,7 @@
 -- The rule that the code finds broken is the fault of the table.
 --   judged_fault: what the code refuses with is the fault
---   no_fault: a table that means a drawing has none
---   built_word: a table without a fault is built into the word of its drawing
+--   refused: what the code refuses with is why no word is built
+--   built: a table that means a drawing is built into the word of its drawing
 use Rattle.std.proofs.Common.{◌≡◌, ◌≤◌, Bool, true, false, ◌||◌, ltb, ◌↔◌, List, length, Some, None, Ok, Err, sym, ◌∙◌, inl, inr}
 use Rattle.std.proofs.lemmas.Bool.{cases_Bool, or_parts, or_from, ltb-false, le-ltb}
 use Rattle.symbols.specs.declared.refusals.Refusal.{Refusal}
@@ -25,7 +25,7 @@ roads_told t = (
   λ p. roads_kept t p.0 p.1,
 )
 
-pub judged_fault : (t : List Crossing) (f : Refusal) → Judged t (Err f) → fault t ≡ Some f
+judged_fault : (t : List Crossing) (f : Refusal) → Judged t (Err f) → fault t ≡ Some f
 judged_fault t r.Opening j = absurd j
 judged_fault t r.NoPixel j = absurd j
 judged_fault t r.NoWord j = absurd j
@@ -43,11 +43,12 @@ judged_fault t r.Short j = absurd j
 judged_fault t r.BadRecord j = absurd j
 judged_fault t r.Home j = absurd j
 
-pub no_fault : (t : List Crossing) → Means t → None ≡ fault t
-no_fault t m = sym ((rules_are_told t).1 m)
+pub refused : (t : List Crossing) (f : Refusal) → Judged t (Err f) → build_word t ≡ Err f
+refused t f j = rw (judged_fault t f j)
 
-pub built_word : (t : List Crossing) → None ≡ fault t → judged (word_of (canonical t)) ≡ build_word t
-built_word t e =
+pub built : (t : List Crossing) → Means t → judged (word_of (canonical t)) ≡ build_word t
+built t m =
     let w = word_of (canonical t) in
-    let b : build_word t ≡ Ok w = rw (sym e) in
+    let e : fault t ≡ None = (rules_are_told t).1 m in
+    let b : build_word t ≡ Ok w = rw e in
     judged_ok w (tables_come_back t w b).0 ∙ sym b

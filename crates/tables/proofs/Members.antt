@@ -1,17 +1,20 @@
 -- The groups of a table by the library's words.
 --   first_found: the first record of a group
 --   size_by: how many records a group has
---   goes_on_told: whether another record of a record's group follows
---   to_the_end: what lies behind a record, to the end
-use Rattle.std.proofs.Common.{◌≡◌, ℕ, zero, suc, ◌+◌, ◌-◌, ◌<◌, ◌≤◌, ◌≢◌, None, Some, Option, MatchOption, unwrap_or, Decides, List, [], ◌∷◌, length, take, drop, filter, count_by, ◌==◌, sym, refl, ap, ◌∙◌, inl, inr, arith}
-use Rattle.std.proofs.lemmas.List.{take_all, length-drop, get_or-drop}
+--   firsts_more: the first record of one record's group more
+--   last_more, goes_on_at: marking the last record of each group, and what that tells
+--   first_told: the first record of a record's group, as it was written
+--   firsts_low: a group's first record is not behind any of its records
+--   goes_on_told: whether another record of its group follows a record, by the first records that were written
+use Rattle.std.proofs.Common.{◌≡◌, ℕ, zero, suc, ◌+◌, ◌-◌, ◌<◌, ◌≤◌, ◌≢◌, ltb, None, Some, Option, MatchOption, unwrap_or, List, [], ◌∷◌, ◌++◌, map, length, get_or, take, drop, set, filter, count_by, ◌==◌, sym, refl, ap, ◌∙◌, inl, inr, arith}
+use Rattle.std.proofs.lemmas.List.{map-append, take_more, length-drop, get_or-drop, get_or-set_same, get_or-set_other}
 use Rattle.std.proofs.lemmas.List.Sums.{length-filter}
-use Rattle.std.proofs.lemmas.Bool.{eq-eqb, ne_eqb, cases_eq}
+use Rattle.std.proofs.lemmas.Bool.{eq-eqb, ne_eqb, lt-ltb, le-ltb, cases_eq, cases_lt}
 use Rattle.symbols.specs.declared.symbols.Crossing.{Crossing}
 use Rattle.rules.specs.Tables.{at, blank, first_of, size_of}
-use Rattle.rules.proofs.Tables.{leader, same_group, same_first}
-use Rattle.tables.specs.Nests.{within, firsts}
-use Rattle.tables.proofs.Stacks.{later, sooner}
+use Rattle.rules.proofs.Tables.{leader, first_le}
+use Rattle.tables.specs.Nests.{within, firsts, firsts_in, Lasts}
+use Rattle.tables.proofs.Stacks.{within_from, within_at, never, firsts_at, length_firsts}
 
 first_none : (g : ℕ) (t : List Crossing) → ((k : ℕ) → k < length t → (at t k).group ≢ g) → first_of g t ≡ length t
 first_none g [] n = refl
@@ -39,24 +42,51 @@ size_filter g (x ∷ t) =
 pub size_by : (g : ℕ) (t : List Crossing) → count_by (λ (c : Crossing). c.group == g) t ≡ size_of g t
 size_by g t = sym (length-filter (λ (c : Crossing). c.group == g) t) ∙ size_filter g t
 
-behind : (t : List Crossing) (n j : ℕ) → n ≤ j → at (drop n t) (j - n) ≡ at t j
-behind t n j h =
-    let e : n + (j - n) ≡ j = omega arith in
-    get_or-drop n t (j - n) blank ∙ ap (at t) e
+pub firsts_more : (t : List Crossing) (k : ℕ) → k < length t → map (firsts_in t) (take (k + 1) t) ≡ map (firsts_in t) (take k t) ++ leader t k ∷ []
+firsts_more t k h = ap (map (firsts_in t)) (take_more t k blank h) ∙ map-append (firsts_in t) (take k t) (at t k ∷ [])
 
-pub goes_on_told : (t : List Crossing) (k : ℕ) → k < length t
-    → Decides (within (leader t k) (drop (k + 1) (firsts t))) ((j : ℕ) × (j < length (drop (k + 1) t)) × ((at (drop (k + 1) t) j).group ≡ (at t k).group))
-goes_on_told t k h = (
-  λ e.
-      let r = later t (leader t k) (k + 1) e in (
-        r.0 - (k + 1),
-        omega (arith, r.1, r.2, length-drop (k + 1) t),
-        ap (λ (c : Crossing). c.group) (behind t (k + 1) r.0 r.1) ∙ same_group t r.0 k r.2 h r.3,
-      ),
-  λ r.
-      sooner t (leader t k) (k + 1) (k + 1 + r.0) (omega arith) (omega (arith, r.1, length-drop (k + 1) t))
-      (same_first t (k + 1 + r.0) k (sym (ap (λ (c : Crossing). c.group) (get_or-drop (k + 1) t r.0 blank)) ∙ r.2)),
-)
+pub last_more : (xs lasts : List ℕ) (i g : ℕ) → g ≡ get_or xs i 0 → g < length lasts → Lasts xs lasts i → Lasts xs (set lasts g i) (i + 1)
+last_more xs lasts i g e h v j l =
+    elim (cases_eq (get_or xs j 0) g) [
+      | inl p ↦
+          (let z : get_or (set lasts g i) (get_or xs j 0) 0 ≡ i = ap (λ (x : ℕ). get_or (set lasts g i) x 0) p ∙ get_or-set_same lasts g i 0 h in
+          (omega arith, omega arith, ap (λ (x : ℕ). get_or xs x 0) z ∙ sym (p ∙ e)))
+      | inr n ↦
+          (let b : j < i = elim (cases_eq j i) [ inl q ↦ absurd (n (ap (λ (x : ℕ). get_or xs x 0) q ∙ sym e)) | inr q ↦ omega arith ] in
+          let z : get_or (set lasts g i) (get_or xs j 0) 0 ≡ get_or lasts (get_or xs j 0) 0 = get_or-set_other lasts g (get_or xs j 0) i 0 n in
+          let w = v j b in
+          (omega (arith, w.0), omega (arith, w.1), ap (λ (x : ℕ). get_or xs x 0) z ∙ w.2))
+    ]
 
-pub to_the_end : (t : List Crossing) (n : ℕ) → take (length t - n) (drop n t) ≡ drop n t
-to_the_end t n = take_all (length t - n) (drop n t) (omega (arith, length-drop n t))
+-- a number stands again further on exactly where it stands last there
+pub goes_on_at : (xs lasts : List ℕ) (k : ℕ) → k < length xs → Lasts xs lasts (length xs) → ltb k (get_or lasts (get_or xs k 0) 0) ≡ within (get_or xs k 0) (drop (k + 1) xs)
+goes_on_at xs lasts k h v =
+    let m = get_or lasts (get_or xs k 0) 0 in
+    let w = v k h in
+    elim (cases_lt k m) [
+      | inl l ↦
+          (let z : k + 1 + (m - (k + 1)) ≡ m = omega arith in
+          lt-ltb k m l
+          ∙ sym (within_at (get_or xs k 0) (drop (k + 1) xs) (m - (k + 1)) (omega (arith, length-drop (k + 1) xs, w.1))
+          (get_or-drop (k + 1) xs (m - (k + 1)) 0 ∙ ap (λ (x : ℕ). get_or xs x 0) z ∙ w.2)))
+      | inr l ↦
+          le-ltb k m l
+          ∙ sym (never (get_or xs k 0) (drop (k + 1) xs) (λ e.
+          let r = within_from (get_or xs k 0) (drop (k + 1) xs) e in
+          let j : ℕ = k + 1 + r.0 in
+          let q : get_or xs j 0 ≡ get_or xs k 0 = sym (get_or-drop (k + 1) xs r.0 0) ∙ r.2 in
+          let u = v j (omega (arith, r.1, length-drop (k + 1) xs)) in
+          let s : get_or lasts (get_or xs j 0) 0 ≡ m = ap (λ (x : ℕ). get_or lasts x 0) q in
+          omega (arith, u.0, s)))
+    ]
+
+pub first_told : (t : List Crossing) (xs : List ℕ) (k : ℕ) → xs ≡ firsts t → k < length t → get_or xs k 0 ≡ leader t k
+first_told t xs k e h = ap (λ (x : List ℕ). get_or x k 0) e ∙ firsts_at t k h
+
+pub firsts_low : (t : List Crossing) (xs : List ℕ) → xs ≡ firsts t → (k : ℕ) → k < length xs → get_or xs k 0 ≤ k
+firsts_low t xs e k h =
+    let l : k < length t = omega (arith, ap length e, length_firsts t) in
+    omega (arith, first_told t xs k e l, first_le t k l)
+
+pub goes_on_told : (t : List Crossing) (xs : List ℕ) (k : ℕ) → xs ≡ firsts t → k < length t → within (get_or xs k 0) (drop (k + 1) xs) ≡ within (leader t k) (drop (k + 1) (firsts t))
+goes_on_told t xs k e h = ap (λ (x : List ℕ). within (get_or x k 0) (drop (k + 1) x)) e ∙ ap (λ (x : ℕ). within x (drop (k + 1) (firsts t))) (firsts_at t k h)

@@ -5,7 +5,8 @@
 --   inner: the open groups after a record of a group that is open
 --   turn: the open groups, innermost first, after one record more; nothing where groups cross
 --   nests: whether no groups cross, by going over all records
-use Rattle.std.specs.Prelude.{ℕ, suc, Bool, true, false, cond, ◌||◌, List, [], ◌∷◌, map, Some, None, Option, ◌==◌}
+--   Lasts: for each number below a bound, a place where the same number stands last
+use Rattle.std.specs.Prelude.{◌≡◌, ℕ, suc, ◌<◌, ◌≤◌, Bool, true, false, cond, ◌||◌, List, [], ◌∷◌, map, Some, None, Option, ◌==◌, slice_index}
 use Rattle.symbols.specs.declared.symbols.Crossing.{Crossing}
 use Rattle.rules.specs.Tables.{first_of}
 
@@ -34,3 +35,7 @@ abbrev pub nests : ℕ → Option (List ℕ) → List ℕ → Bool
 nests k None [] = false
 nests k (Some st) [] = true
 nests k o (g ∷ gs) = nests (suc k) (turn k g (within g gs) o) gs
+
+abbrev pub Lasts : List ℕ → List ℕ → ℕ → Type 0
+Lasts xs lasts n =
+    (j : ℕ) → j < n → (j ≤ slice_index lasts (slice_index xs j)) × (slice_index lasts (slice_index xs j) < n) × (slice_index xs (slice_index lasts (slice_index xs j)) ≡ slice_index xs j)

@@ -5,7 +5,7 @@ ghost use Rattle.rows.specs.Rows.{items};
 ghost use Rattle.rules.specs.Tables.{Rising, symbol_at, canonical, word_of, build_word};
 ghost use Rattle.words.specs.Held.{in_symbols};
 
-use crate::groups::{first_record, goes_on};
+use crate::groups::{first_records, goes_on, last_records};
 use crate::judging::judge;
 use rows::Row;
 use symbols::{Crossing, Refusal, Symbol};
@@ -42,12 +42,15 @@ fn word_of(table: &[Crossing]) -> Row<Symbol, 64>
     requires { (length table.now ≤ 60) × (Rising table.now) }
     ensures { items result ≡ word_of (canonical table.now) }
 {
-    let mut word = Row::new(Symbol::Corner);
+    let firsts = first_records(table);
+    let firsts = &firsts[..table.len()];
+    let lasts = last_records(firsts);
+    let mut word = Row::over([Symbol::Corner; 64]);
     let mut road: u8 = 0;
     for (k, c) in table.iter().enumerate() {
         push_corners(&mut word, c.road - road);
-        let first = first_record(table, c.group) == k;
-        let _ = word.push(symbol_of(c.vertex, first, goes_on(table, k)));
+        let first = usize::from(firsts[k]) == k;
+        let _ = word.push(symbol_of(c.vertex, first, goes_on(firsts, &lasts, k)));
         road = c.road;
     }
     push_corners(&mut word, 4 - road);
@@ -55,6 +58,7 @@ fn word_of(table: &[Crossing]) -> Row<Symbol, 64>
 }
 
 // The word of the drawing that a table means, or the first rule that the table breaks.
+#[tactic(auto, using(crate::proofs::Faults::refused, crate::proofs::Faults::built))]
 pub fn build(table: &[Crossing]) -> Result<Word, Refusal>
     ensures { in_symbols result ≡ build_word table.now }
 {

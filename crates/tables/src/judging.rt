@@ -1,21 +1,21 @@
 // Whether a table means a drawing.
 ghost use Rattle.std.specs.Prelude.{◌≡◌, ℕ, ◌+◌, ◌<◌, ◌≤◌, [], true, false, length, reverse, Some, MatchOption, Decides};
 ghost use Rattle.rows.specs.Rows.{items};
-ghost use Rattle.rules.specs.Tables.{at, Rising, Flagged, Paired, Uncrossed};
+ghost use Rattle.rules.specs.Tables.{at, first_of, Rising, Flagged, Paired, Uncrossed};
 ghost use Rattle.tables.specs.Nests.{turn, nests, firsts};
 ghost use Rattle.tables.specs.Judging.{Judged};
 
-use crate::groups::{first_record, goes_on, size};
+use crate::groups::{first_record, first_records, goes_on, last_records, size};
 use rows::Row;
 use symbols::{Crossing, Refusal};
 
 // The open groups, the innermost last, after the record k of the group that the record g begins; nothing where groups cross.
-fn turn(opened: &mut Row<usize, 60>, k: usize, g: usize, more: bool) -> Option<()>
+fn turn(opened: &mut Row<u8, 60>, k: usize, g: u8, more: bool) -> Option<()>
     requires { length (items opened.old) < 60 }
     ensures { MatchOption result (turn k g more (Some (reverse (items opened.old))) ≡ None)
         (λ _. (turn k g more (Some (reverse (items opened.old))) ≡ Some (reverse (items opened.new))) × (length (items opened.new) ≤ length (items opened.old) + 1)) }
 {
-    if g == k {
+    if usize::from(g) == k {
         if more {
             opened.push(g)?;
         }
@@ -36,10 +36,13 @@ fn nested(table: &[Crossing]) -> bool
     requires { length table.now ≤ 60 }
     ensures { result ≡ nests 0 (Some []) (firsts table.now) }
 {
-    let mut opened = Row::new(0);
-    for (k, c) in table.iter().enumerate() {
-        let more = goes_on(table, k);
-        let Some(()) = turn(&mut opened, k, first_record(table, c.group), more) else {
+    let firsts = first_records(table);
+    let firsts = &firsts[..table.len()];
+    let lasts = last_records(firsts);
+    let mut opened = Row::over([0; 60]);
+    for (k, g) in firsts.iter().enumerate() {
+        let more = goes_on(firsts, &lasts, k);
+        let Some(()) = turn(&mut opened, k, *g, more) else {
             return false;
         };
     }
@@ -75,18 +78,20 @@ fn rising(table: &[Crossing]) -> bool
     known_roads(table) && never_falls(table)
 }
 
-// Whether all records of the group g have the flag.
-fn have_flag(table: &[Crossing], g: u16, vertex: bool) -> bool
-    ensures { Decides result ((j : ℕ) → j < length table.now → (at table.now j).group ≡ g → (at table.now j).vertex ≡ vertex) }
+// Whether the first record of the group g has the flag.
+fn begins_with(table: &[Crossing], g: u16, vertex: bool) -> bool
+    ensures { Decides result ((first_of g table.now < length table.now) × ((at table.now (first_of g table.now)).vertex ≡ vertex)) }
 {
-    table.iter().all(|c| c.group != g || c.vertex == vertex)
+    table
+        .get(first_record(table, g))
+        .is_some_and(|c| c.vertex == vertex)
 }
 
 // Whether the flags of each group agree.
 fn flagged(table: &[Crossing]) -> bool
     ensures { Decides result (Flagged table.now) }
 {
-    table.iter().all(|c| have_flag(table, c.group, c.vertex))
+    table.iter().all(|c| begins_with(table, c.group, c.vertex))
 }
 
 // Whether each group without a vertex has two records.

@@ -10,7 +10,7 @@ pub loop-word-init : goal.loop-word-init
 loop-word-init c =
     let src = c.args.source.now in
     let l = record_lawful src.width src.height src.runs.now src.symbols.now in
-    (tt, tt, count_begins (source_told src).words (words_left c.into_iter-word-iterator.result) (ap words_left c.into_iter-word-iterator.ensures.into_iter_gives ∙ c.words-word-items.ensures) l.words)
+    (tt, tt, count_begins (source_told src).words (words_left c.into_iter-word-iterator.result) (ap words_left c.into_iter-word-iterator.ensures.into_iter_gives ∙ c.words-word-items.ensures.words) l.words)
 
 pub overflow_add-total : goal.overflow_add-total
 overflow_add-total c =

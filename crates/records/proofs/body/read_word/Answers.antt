@@ -5,7 +5,7 @@ use Rattle.records.proofs.Cuts.{cut_begins, cut_on, cut_stops}
 use Rattle.records.proofs.body.read_word.Goals as goal
 
 pub loop-corners-init : goal.loop-corners-init
-loop-corners-init c = cut_begins c.args.bytes.now c.args.from (items c.new-word.result) c.new-word.ensures
+loop-corners-init c = cut_begins c.args.bytes.now c.args.from (items c.over-word.result) c.over-word.ensures
 
 pub returns-in_err-symbol : goal.returns-in_err-symbol
 returns-in_err-symbol c =

@@ -16,7 +16,7 @@ returns-then-not-has_room c =
     let items = s.memory.items in
     let f = c.find-spot.result in
     let there : i < n = c.if-not-has.ensures.0 refl in
-    let good = accepted_word w _ c.in_ok-from_symbols.ensures in
+    let good = accepted_word w _ c.in_ok-lawful.ensures in
     let p = stands items c.deref.result.now n i f.at f.old f.tail there c.deref.ensures.value
     (subst (λ (m : ℕ). Spotted c.deref.result.now m i f.at f.old f.tail) c.pixels.ensures c.find-spot.ensures) in
     let sum = sum_placed n i items w f.at f.old f.tail there s.each good.1 p in
@@ -32,7 +32,7 @@ invariant_of-self c =
     let items = s.memory.items in
     let f = c.find-spot.result in
     let there : i < n = c.if-not-has.ensures.0 refl in
-    let good = accepted_word w _ c.in_ok-from_symbols.ensures in
+    let good = accepted_word w _ c.in_ok-lawful.ensures in
     let p = stands items c.deref.result.now n i f.at f.old f.tail there c.deref.ensures.value
     (subst (λ (m : ℕ). Spotted c.deref.result.now m i f.at f.old f.tail) c.pixels.ensures c.find-spot.ensures) in
     let put = rewritten items c.deref_mut.result.now c.replace.new.part w n i f.at f.old f.tail s.memory.len there s.each good.1 s.memory.ok.0 p (omega (arith, c.if-not-has_room.ensures)) c.deref_mut.ensures.value c.replace.ensures in
@@ -47,7 +47,7 @@ returns c =
     let items = s.memory.items in
     let f = c.find-spot.result in
     let there : i < n = c.if-not-has.ensures.0 refl in
-    let good = accepted_word w _ c.in_ok-from_symbols.ensures in
+    let good = accepted_word w _ c.in_ok-lawful.ensures in
     let p = stands items c.deref.result.now n i f.at f.old f.tail there c.deref.ensures.value
     (subst (λ (m : ℕ). Spotted c.deref.result.now m i f.at f.old f.tail) c.pixels.ensures c.find-spot.ensures) in
     let sum = sum_placed n i items w f.at f.old f.tail there s.each good.1 p in

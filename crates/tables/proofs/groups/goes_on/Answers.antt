@@ -1,9 +1,10 @@
-use Rattle.std.proofs.Common.{◌+◌}
-use Rattle.std.proofs.lemmas.Bool.Decides.{same_from_decides}
-use Rattle.tables.proofs.Members.{goes_on_told, to_the_end}
+use Rattle.std.proofs.Common.{ℕ, ltb, get_or, ap, ◌∙◌}
+use Rattle.tables.proofs.Members.{goes_on_at}
 use Rattle.tables.proofs.groups.goes_on.Goals as goal
 
 pub returns : goal.returns
 returns c =
-    let h = rw (to_the_end c.args.table.now (c.args.k + 1)) at c.has_group.ensures in
-    same_from_decides _ _ h (goes_on_told c.args.table.now c.args.k c.requires)
+    let xs = c.args.firsts.now in
+    let lasts = c.args.lasts.now in
+    let k = c.args.k in
+    ap (ltb k) (c.from.ensures ∙ ap (λ (x : ℕ). get_or lasts x 0) c.from-g.ensures) ∙ goes_on_at xs lasts k c.requires.0 c.requires.2

@@ -8,5 +8,5 @@ overflow_cast-result c =
     let d = c.args.self.now.drawing in
     omega (arith, d.within, place_low (crossings d) c.args.crossing _ _ (ap place_code (sym c.unwrap-road.ensures) ∙ c.place_of.ensures))
 
-pub invariant_of-result : goal.invariant_of-result
-invariant_of-result c = record { there = place_there (crossings c.args.self.now.drawing) c.args.crossing _ _ (ap place_code (sym c.unwrap-road.ensures) ∙ c.place_of.ensures) }
+pub returns-clause-there : goal.returns-clause-there
+returns-clause-there c = place_there (crossings c.args.self.now.drawing) c.args.crossing _ _ (ap place_code (sym c.unwrap-road.ensures) ∙ c.place_of.ensures)
